@@ -1,0 +1,132 @@
+// Stored numbers: unsigned LEB128 (DWARF 5, section 7.6) of one to five bytes, for values of 32 bits.
+ghost use mathlib.Core.Path.{_≡_};
+ghost use Prim.Native.Nat.{_+_, _≤_};
+ghost use lib.ListN.{length};
+ghost use Rattle.codec.specs.Leb128.{encoded};
+ghost use Rattle.codec.specs.Reading.{decodedAt, Encoded};
+
+// A place in a slice of bytes.
+pub struct Reader {
+    pub at: usize,
+}
+
+// A number that was read, and the reader moved on past it.
+pub struct Number {
+    pub value: u32,
+    pub next: Reader,
+}
+
+// What a reader finds: a number, or no number that document 01 accepts.
+pub enum Decoded {
+    Value(Number),
+    Refused,
+}
+
+fn wide(x: u8) -> u32
+    ensures { λ r. ⌜ r ≡ x ⌝ }
+{
+    x as u32
+}
+
+impl Reader {
+    // The number at the reader's place: one to five bytes, below 2^32; long forms of small numbers included.
+    pub fn decode_u32(self, s: &[u8]) -> Decoded
+        ensures { λ r. ⌜ r ≡ decodedAt (now (s .entry)) (self .at) ⌝ }
+    {
+        let at = self.at;
+        if s.len() <= at {
+            return Decoded::Refused;
+        }
+        let b0 = wide(s[at]);
+        let at1 = at + 1;
+        if b0 < 128 {
+            return Decoded::Value(Number {
+                value: b0,
+                next: Reader { at: at1 },
+            });
+        }
+        if s.len() <= at1 {
+            return Decoded::Refused;
+        }
+        let b1 = wide(s[at1]);
+        let at2 = at1 + 1;
+        let x1 = b0 % 128 + b1 % 128 * 128;
+        if b1 < 128 {
+            return Decoded::Value(Number {
+                value: x1,
+                next: Reader { at: at2 },
+            });
+        }
+        if s.len() <= at2 {
+            return Decoded::Refused;
+        }
+        let b2 = wide(s[at2]);
+        let at3 = at2 + 1;
+        let x2 = x1 + b2 % 128 * 16384;
+        if b2 < 128 {
+            return Decoded::Value(Number {
+                value: x2,
+                next: Reader { at: at3 },
+            });
+        }
+        if s.len() <= at3 {
+            return Decoded::Refused;
+        }
+        let b3 = wide(s[at3]);
+        let at4 = at3 + 1;
+        let x3 = x2 + b3 % 128 * 2097152;
+        if b3 < 128 {
+            return Decoded::Value(Number {
+                value: x3,
+                next: Reader { at: at4 },
+            });
+        }
+        if s.len() <= at4 {
+            return Decoded::Refused;
+        }
+        let b4 = wide(s[at4]);
+        if 16 <= b4 {
+            return Decoded::Refused;
+        }
+        Decoded::Value(Number {
+            value: x3 + b4 * 268435456,
+            next: Reader { at: at4 + 1 },
+        })
+    }
+}
+
+// How many bytes the shortest form of x has.
+pub fn encoded_len(x: u32) -> usize
+    ensures { λ r. ⌜ r ≡ length (encoded x) ⌝ }
+{
+    if x < 128 {
+        return 1;
+    }
+    if x < 16384 {
+        return 2;
+    }
+    if x < 2097152 {
+        return 3;
+    }
+    if x < 268435456 {
+        return 4;
+    }
+    5
+}
+
+// Stores the shortest form of x in out from at, and answers the place past it.
+// The caller has measured: encoded_len says how much room that takes.
+pub fn encode_u32(x: u32, out: &mut [u8], at: usize) -> usize
+    requires { ⌜ at + length (encoded x) ≤ length (now out) ⌝ }
+    ensures { λ r. ⌜ Encoded x at (now (out .entry)) r (now (out .exit)) ⌝ }
+{
+    let mut rest = x;
+    let mut i = at;
+    while 128 <= rest {
+        out[i] = (rest % 128 + 128) as u8;
+        rest = rest / 128;
+        i += 1;
+    }
+    out[i] = rest as u8;
+    i + 1
+}

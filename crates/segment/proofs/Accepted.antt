@@ -1,0 +1,40 @@
+-- What a check that was passed says, and what the code's answer of a check says.
+-- Assumes nothing.
+use mathlib.Core.Path.{_≡_, refl}
+use mathlib.Core.Bool.{Bool, true, false}
+use Prim.Native.Nat.{ℕ}
+use native.Mathlib.Omega.{arith}
+use Rattle.segment.specs.declared.refusal.Refusal.{Refusal}
+use Rattle.segment.specs.declared.metadata.Checked.{Checked}
+use Rattle.segment.specs.declared.metadata.Checked.the-variants.{Passed, Refused}
+use Rattle.segment.specs.Results.{Result, ok, refuse, _>>=_, check}
+use Rattle.segment.specs.Walks.{checked}
+use Rattle.segment.proofs.Binds.{refuse-ok}
+
+pub check-gives : {B : Type 0} (t : Bool) (x : Refusal) (f : Unit {0} → Result B) {b : B} → check t x >>= f ≡ ok b
+    → (t ≡ true) × (f tt ≡ ok b)
+check-gives true x f e = (refl, e)
+check-gives false x f e = refuse-ok e
+
+-- a result by the code's answer of it
+pub passed-ok : {A : Type 0} (r : Result A) → Passed ≡ checked r → (a : A) × (r ≡ ok a)
+passed-ok (ok a) e = (a, refl)
+passed-ok (refuse x) e = let z : _≡_ {A = ℕ} 0 1 = cc in absurd (omega arith)
+
+pub refused-is : {A : Type 0} (r : Result A) {x : Refusal} → Refused x ≡ checked r → r ≡ refuse x
+refused-is (ok a) e = let z : _≡_ {A = ℕ} 0 1 = cc in absurd (omega arith)
+refused-is (refuse y) e = cc
+
+-- a chain of checks: out at the first refusal, and on behind what passed
+pub stops : {A B : Type 0} (r : Result A) (f : A → Result B) {x : Refusal} → Refused x ≡ checked r → Refused x ≡ checked (r >>= f)
+stops (ok a) f e = let z : _≡_ {A = ℕ} 0 1 = cc in absurd (omega arith)
+stops (refuse y) f e = e
+
+pub goes : {B : Type 0} (r : Result (Unit {0})) (f : Unit {0} → Result B) {c : Checked} → Passed ≡ checked r → c ≡ checked (f tt) → c ≡ checked (r >>= f)
+goes (ok a) f e h = h
+goes (refuse x) f e h = let z : _≡_ {A = ℕ} 0 1 = cc in absurd (omega arith)
+
+-- what is made of an accepted value has no part in the answer
+pub same-check : {A B : Type 0} (r : Result A) (f : A → B) → checked (r >>= λ a. ok (f a)) ≡ checked r
+same-check (ok a) f = refl
+same-check (refuse x) f = refl

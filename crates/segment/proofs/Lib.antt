@@ -1,0 +1,21 @@
+-- Laws that belong to no one function, lowest first.
+pub mod Fields
+pub mod Strings
+pub mod Ends
+pub mod Sections
+pub mod Binds
+pub mod Gaps
+pub mod Document-reads
+pub mod Document-cursors
+pub mod Documents-checked
+pub mod Documents-held
+pub mod Value-reads
+pub mod Positions
+pub mod Posting-reads
+pub mod Heads
+pub mod Tallies
+pub mod Accepted
+pub mod Checks
+pub mod Entries
+pub mod Lookup
+pub mod Openings

@@ -1,0 +1,18 @@
+-- The segment format of document 01. What a reader must believe, in the order to read it:
+pub mod Refusals
+pub mod Results
+pub mod Names
+pub mod Records
+pub mod Metadata
+pub mod Directory
+pub mod Postings
+pub mod Opening
+pub mod Texts
+-- What the code's answers and cursors stand for:
+pub mod Orders
+pub mod Layouts
+pub mod Walks
+pub mod Held
+pub mod Spots
+pub mod Terms
+pub mod Opened

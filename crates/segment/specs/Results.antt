@@ -1,0 +1,18 @@
+-- What a definition answers: a value, or the first refusal in document 01's order of tests.
+use mathlib.Core.Bool.{Bool, true, false}
+use Rattle.segment.specs.declared.refusal.Refusal.{Refusal}
+
+pub data Result (A : Type 0) : Type 0 where
+  ok : A → Result A
+  refuse : Refusal → Result A
+
+infixl 10 _>>=_
+-- on with the value, or out with the refusal
+abbrev pub _>>=_ : {A B : Type 0} → Result A → (A → Result B) → Result B
+ok a >>= f = f a
+refuse x >>= f = refuse x
+
+-- on where the test passes, else the refusal
+abbrev pub check : Bool → Refusal → Result (Unit {0})
+check true x = ok tt
+check false x = refuse x

@@ -1,0 +1,244 @@
+// Published vectors, run one by one. What each must give stands in the file stdout, written from the publications and not from a run;
+// the checksums of messages that were published for another digest are zlib's.
+use codec::crc32::crc32;
+use codec::utf8::is_utf8;
+use codec::varint::Decoded;
+use codec::varint::Reader;
+use codec::varint::encode_u32;
+use codec::varint::encoded_len;
+use libc::STDOUT_FILENO;
+ghost use Prim.Native.Nat.{_≤_};
+ghost use lib.ListN.{length};
+
+fn put(s: &[u8]) {
+    io::write_all(STDOUT_FILENO, s);
+}
+
+fn put_number(x: u32) {
+    io::print_decimal(STDOUT_FILENO, x as u64);
+}
+
+fn digit(x: u8) -> u8 {
+    let d = x % 16;
+    if d < 10 { b'0' + d } else { b'A' + d - 10 }
+}
+
+// A space and two hexadecimal digits.
+fn put_byte(b: u8) {
+    put(&[b' ', digit(b / 16), digit(b)]);
+}
+
+fn put_first(n: usize, s: &[u8])
+    requires { ⌜ n ≤ length (now s) ⌝ }
+{
+    let mut i = 0;
+    while i < n {
+        put_byte(s[i]);
+        i += 1;
+    }
+}
+
+fn put_bytes(s: &[u8]) {
+    put_first(s.len(), s);
+}
+
+fn put_checksum(s: &[u8]) {
+    put(b" -> ");
+    io::print_hex(STDOUT_FILENO, crc32(s) as u64, 8);
+    put(b"\n");
+}
+
+fn checksum(text: &[u8]) {
+    put(b"crc32 \"");
+    put(text);
+    put(b"\"");
+    put_checksum(text);
+}
+
+fn checksum_of_bytes(s: &[u8]) {
+    put(b"crc32");
+    put_bytes(s);
+    put_checksum(s);
+}
+
+fn text(s: &[u8]) {
+    put(b"utf8");
+    put_bytes(s);
+    if is_utf8(s) {
+        put(b" -> text\n");
+    } else {
+        put(b" -> refused\n");
+    }
+}
+
+fn read(s: &[u8]) {
+    put(b"read");
+    put_bytes(s);
+    put(b" -> ");
+    let r = Reader { at: 0 };
+    let Decoded::Value(n) = r.decode_u32(s) else {
+        put(b"refused\n");
+        return;
+    };
+    put_number(n.value);
+    put(b", reader at ");
+    io::print_decimal(STDOUT_FILENO, n.next.at as u64);
+    put(b"\n");
+}
+
+fn write(x: u32) {
+    put(b"write ");
+    put_number(x);
+    put(b" ->");
+    let mut out = [0; 5];
+    let n = encoded_len(x);
+    if n <= 5 {
+        encode_u32(x, &mut out, 0);
+        put_first(n, &out);
+    }
+    put(b"\n");
+}
+
+fn catalogue_check() {
+    put(b"CRC-32: check value of CRC-32/ISO-HDLC, Catalogue of parametrised CRC algorithms\n");
+    checksum(b"123456789");
+}
+
+fn rfc_1321() {
+    put(b"CRC-32: messages of RFC 1321, appendix A.5\n");
+    checksum(b"");
+    checksum(b"a");
+    checksum(b"abc");
+    checksum(b"message digest");
+    checksum(b"abcdefghijklmnopqrstuvwxyz");
+    checksum(b"ABCDEFGHIJKLMNOPQRSTUVWXYZabcdefghijklmnopqrstuvwxyz0123456789");
+    checksum(b"12345678901234567890123456789012345678901234567890123456789012345678901234567890");
+}
+
+fn rfc_3720() {
+    put(b"CRC-32: messages of RFC 3720, appendix B.4\n");
+    checksum_of_bytes(&[0x00; 32]);
+    checksum_of_bytes(&[0xFF; 32]);
+    checksum_of_bytes(
+        b"\x00\x01\x02\x03\x04\x05\x06\x07\x08\x09\x0A\x0B\x0C\x0D\x0E\x0F\x10\x11\x12\x13\x14\x15\x16\x17\x18\x19\x1A\x1B\x1C\x1D\x1E\x1F",
+    );
+}
+
+fn rosetta_code() {
+    put(b"CRC-32: Rosetta Code\n");
+    checksum(b"The quick brown fox jumps over the lazy dog");
+}
+
+fn rfc_3629_examples() {
+    put(b"UTF-8: examples of RFC 3629, section 7\n");
+    text(b"\x41\xE2\x89\xA2\xCE\x91\x2E");
+    text(b"\xED\x95\x9C\xEA\xB5\xAD\xEC\x96\xB4");
+    text(b"\xE6\x97\xA5\xE6\x9C\xAC\xE8\xAA\x9E");
+    text(b"\xEF\xBB\xBF\xF0\xA3\x8E\xB4");
+}
+
+fn rfc_3629_attacks() {
+    put(b"UTF-8: attacks of RFC 3629, sections 3 and 10\n");
+    text(b"\xC0\x80");
+    text(b"\xED\xA1\x8C\xED\xBE\xB4");
+    text(b"\x2F\xC0\xAE\x2E\x2F");
+}
+
+// The grammar has no row for these; of the last three the end is missing.
+fn rfc_3629_grammar() {
+    put(b"UTF-8: outside the grammar of RFC 3629, section 4\n");
+    text(b"\xF5\x80\x80\x80");
+    text(b"\xC2");
+    text(b"\xE2\x89");
+    text(b"\xF0\x9F\x98");
+}
+
+// The first and last characters of one, two, three and four octets, the neighbours of the surrogates, and what lies past U+10FFFF.
+fn kuhn_boundaries() {
+    put(b"UTF-8: Kuhn's decoder stress test, section 2, boundaries\n");
+    text(b"\x00");
+    text(b"\x7F");
+    text(b"\xC2\x80");
+    text(b"\xDF\xBF");
+    text(b"\xE0\xA0\x80");
+    text(b"\xED\x9F\xBF");
+    text(b"\xEE\x80\x80");
+    text(b"\xEF\xBF\xBD");
+    text(b"\xEF\xBF\xBF");
+    text(b"\xF0\x90\x80\x80");
+    text(b"\xF4\x8F\xBF\xBF");
+    text(b"\xF4\x90\x80\x80");
+    text(b"\xF8\x88\x80\x80\x80");
+}
+
+fn kuhn_malformed() {
+    put(b"UTF-8: Kuhn's decoder stress test, section 3, malformed sequences\n");
+    text(b"\x80");
+    text(b"\xBF");
+    text(b"\xFE");
+    text(b"\xFF");
+}
+
+fn kuhn_overlong() {
+    put(b"UTF-8: Kuhn's decoder stress test, section 4, overlong sequences\n");
+    text(b"\xC0\xAF");
+    text(b"\xE0\x80\xAF");
+    text(b"\xF0\x80\x80\xAF");
+    text(b"\xC1\xBF");
+    text(b"\xE0\x9F\xBF");
+    text(b"\xF0\x8F\xBF\xBF");
+}
+
+fn kuhn_surrogates() {
+    put(b"UTF-8: Kuhn's decoder stress test, section 5, surrogates\n");
+    text(b"\xED\xA0\x80");
+    text(b"\xED\xBF\xBF");
+    text(b"\xED\xA0\x80\xED\xB0\x80");
+}
+
+fn dwarf_5() {
+    put(b"LEB128: DWARF 5, table 7.7\n");
+    read(b"\x02");
+    read(b"\x7F");
+    read(b"\x80\x01");
+    read(b"\x81\x01");
+    read(b"\xB9\x64");
+    write(2);
+    write(127);
+    write(128);
+    write(129);
+    write(12857);
+}
+
+fn wikipedia() {
+    put(b"LEB128: Wikipedia\n");
+    read(b"\xE5\x8E\x26");
+    write(624485);
+}
+
+fn document_01() {
+    put(b"LEB128: stored numbers of document 01\n");
+    read(b"\xFF\xFF\xFF\xFF\x0F");
+    read(b"\xFF\xFF\xFF\xFF\x10");
+    read(b"\x80\x00");
+    read(b"\x80");
+    read(b"\x80\x80\x80\x80\x80\x00");
+    write(4294967295);
+}
+
+fn main() {
+    catalogue_check();
+    rfc_1321();
+    rfc_3720();
+    rosetta_code();
+    rfc_3629_examples();
+    rfc_3629_attacks();
+    rfc_3629_grammar();
+    kuhn_boundaries();
+    kuhn_malformed();
+    kuhn_overlong();
+    kuhn_surrogates();
+    dwarf_5();
+    wikipedia();
+    document_01();
+}
