@@ -1,0 +1,152 @@
+-- What the bytes hold from a place on is what a cursor that enters there shows.
+-- Assumes nothing.
+use Prim.Native.Nat.{ℕ, zero, suc, _-_, _^_}
+use mathlib.Core.Path.{_≡_, refl, sym, ap, _∙_}
+use mathlib.Core.List.{List, []}
+use mathlib.Core.Bool.{Bool, true, false}
+use mathlib.Core.Option.{Option, none, some}
+use native.Mathlib.Omega.{arith}
+use lib.Dec.{ltb}
+use lib.ListN.{drop}
+use Rattle.codec.specs.Leb128.{Leb, stored}
+use Rattle.codec.specs.Reading.{decodedAt}
+use Rattle.codec.specs.declared.varint.Number.{Number}
+use Rattle.codec.specs.declared.varint.Decoded.the-variants.{Value, Refused}
+use Rattle.segment.specs.declared.refusal.Refusal.{Refusal}
+use Rattle.segment.specs.Refusals.{postings}
+use Rattle.segment.specs.Results.{Result, ok, refuse, _>>=_, check}
+use Rattle.segment.specs.Records.{Read, number, number-or, at-gap, rises}
+use Rattle.segment.specs.Postings.{read-value}
+use Rattle.segment.specs.Walks.{skipped}
+use Rattle.segment.specs.Held.{rest-of}
+use Rattle.segment.specs.Spots.{Spot, value-at, spot-at, held-postings, held-positions}
+use Rattle.segment.proofs.Gaps.{number-refused, number-value}
+use Rattle.reading.specs.Cursors.{postings-at, positions-at}
+use Rattle.reading.proofs.Seeks.{Ahead, none, one}
+
+-- the value alone
+abbrev carried : Result (Read ℕ) → Option (Read ℕ)
+carried (ok v) = some v
+carried (refuse x) = none
+
+carried-ok : (r : Result (Read ℕ)) {v : Read ℕ} → carried r ≡ some v → r ≡ ok v
+carried-ok (ok v) e = cc
+carried-ok (refuse x) e = let z : _≡_ {A = ℕ} 0 1 = cc in absurd (omega arith)
+
+carried-none : (r : Result (Read ℕ)) → carried r ≡ none → (x : Refusal) × (r ≡ refuse x)
+carried-none (ok v) e = let z : _≡_ {A = ℕ} 0 1 = cc in absurd (omega arith)
+carried-none (refuse x) e = (x, refl)
+
+-- a gap's value after its two tests
+abbrev tested : (over order : Refusal) (previous : Option ℕ) → Read ℕ → Result (Read ℕ)
+tested over order previous gap =
+    check (ltb (at-gap previous (gap .got)) (2 ^ 32)) over >>= (λ _.
+    check (rises previous (at-gap previous (gap .got))) order >>= (λ _.
+    ok (record { got = at-gap previous (gap .got); rest = gap .rest })))
+
+-- what a value's refusals would be shows only in them
+module _ (over order over' order' : Refusal) (index index' : ℕ) (previous : Option ℕ) (bytes : List ℕ) where
+  tests : (r : Read ℕ) (t u : Bool)
+      → carried (check t over >>= (λ _. check u order >>= (λ _. ok r))) ≡ carried (check t over' >>= (λ _. check u order' >>= (λ _. ok r)))
+  tests r true true = refl
+  tests r true false = refl
+  tests r false true = refl
+  tests r false false = refl
+
+  gaps : (o : Option Leb)
+      → carried (number-or postings index bytes o >>= tested over order previous)
+      ≡ carried (number-or postings index' bytes o >>= tested over' order' previous)
+  gaps none = refl
+  gaps (some r) =
+      let v = at-gap previous (r .value) in
+      tests (record { got = v; rest = drop (r .size) bytes }) (ltb v (2 ^ 32)) (rises previous v)
+
+  any-refusal : carried (read-value over order index previous bytes) ≡ carried (read-value over' order' index' previous bytes)
+  unfolding read-value
+  any-refusal = gaps (stored bytes)
+
+  pub value-ok : {v : Read ℕ} → read-value over order index previous bytes ≡ ok v → read-value over' order' index' previous bytes ≡ ok v
+  value-ok e = carried-ok _ (sym any-refusal ∙ ap carried e)
+
+  pub value-refused : {x : Refusal} → read-value over order index previous bytes ≡ refuse x
+      → (y : Refusal) × (read-value over' order' index' previous bytes ≡ refuse y)
+  value-refused e = carried-none _ (sym any-refusal ∙ ap carried e)
+
+-- a number that the code read, and the bytes past it
+abbrev pub read-to : Number → List ℕ → Read ℕ
+read-to n s = record { got = n .value; rest = drop (n .next .at) s }
+
+-- ---- positions
+
+module _ (s : List ℕ) where
+  pub positions-ahead : (left at pos : ℕ) → Ahead (λ (p : ℕ). p) pos left (positions-at left at pos s)
+  unfolding positions-at
+  positions-ahead zero at pos = none
+  positions-ahead (suc n) at pos = one refl
+
+  no-positions : (a p : ℕ) → positions-at 0 a p s ≡ []
+  unfolding positions-at
+  no-positions a p = refl
+
+  module _ (at : ℕ) (previous : Option ℕ) where
+    pub positions-end : (left a p : ℕ) → left ≡ 0 → positions-at 0 a p s ≡ held-positions left previous (drop at s)
+    unfolding held-positions
+    positions-end left a p e = rw e (no-positions a p)
+
+    pub positions-refused : {x : Refusal} (left a p : ℕ) → value-at previous (drop at s) ≡ refuse x
+        → positions-at 0 a p s ≡ held-positions left previous (drop at s)
+    unfolding held-positions
+    positions-refused zero a p e = no-positions a p
+    positions-refused (suc n) a p e = no-positions a p ∙ rw e
+
+    pub positions-next : (left : ℕ) (v : Number) → value-at previous (drop at s) ≡ ok (read-to v s)
+        → positions-at left (v .next .at) (v .value) s ≡ held-positions left previous (drop at s)
+    unfolding positions-at held-positions
+    positions-next zero v e = refl
+    positions-next (suc n) v e = rw e
+
+  pub positions-past : (left at pos : ℕ) → (left ≡ 0 → ⊥) → held-positions (left - 1) (some pos) (drop at s) ≡ rest-of (positions-at left at pos s)
+  unfolding positions-at
+  positions-past zero at pos h = absurd (h refl)
+  positions-past (suc n) at pos h = let e : suc n - 1 ≡ n = omega arith in rw e
+
+-- ---- postings
+
+module _ (s : List ℕ) where
+  pub postings-ahead : (left at count doc : ℕ) → Ahead (λ (x : Spot). x .doc) doc left (postings-at left at count doc s)
+  unfolding postings-at
+  postings-ahead zero at count doc = none
+  postings-ahead (suc n) at count doc = one refl
+
+  no-postings : (a k d : ℕ) → postings-at 0 a k d s ≡ []
+  unfolding postings-at
+  no-postings a k d = refl
+
+  module _ (at : ℕ) (previous : Option ℕ) where
+    pub postings-end : (left a k d : ℕ) → left ≡ 0 → postings-at 0 a k d s ≡ held-postings left previous (drop at s)
+    unfolding held-postings
+    postings-end left a k d e = rw e (no-postings a k d)
+
+    pub postings-refused : {x : Refusal} (left a k d : ℕ) → value-at previous (drop at s) ≡ refuse x
+        → postings-at 0 a k d s ≡ held-postings left previous (drop at s)
+    unfolding held-postings spot-at
+    postings-refused zero a k d e = no-postings a k d
+    postings-refused (suc n) a k d e = no-postings a k d ∙ rw e
+
+    module _ (v : Number) (e : value-at previous (drop at s) ≡ ok (read-to v s)) where
+      pub postings-half : (left a k d : ℕ) → decodedAt s (v .next .at) ≡ Refused → postings-at 0 a k d s ≡ held-postings left previous (drop at s)
+      unfolding held-postings spot-at
+      postings-half zero a k d f = no-postings a k d
+      postings-half (suc n) a k d f = no-postings a k d ∙ rw (e, number-refused s (v .next .at) postings 0 f)
+
+      pub postings-next : (left : ℕ) {n : Number} → decodedAt s (v .next .at) ≡ Value n
+          → postings-at left (n .next .at) (n .value) (v .value) s ≡ held-postings left previous (drop at s)
+      unfolding postings-at held-postings spot-at
+      postings-next zero f = refl
+      postings-next (suc n) f = rw (e, number-value s (v .next .at) postings 0 f)
+
+  pub postings-past : (left at count doc : ℕ) → (left ≡ 0 → ⊥)
+      → held-postings (left - 1) (some doc) (skipped count (drop at s)) ≡ rest-of (postings-at left at count doc s)
+  unfolding postings-at
+  postings-past zero at count doc h = absurd (h refl)
+  postings-past (suc n) at count doc h = let e : suc n - 1 ≡ n = omega arith in rw e

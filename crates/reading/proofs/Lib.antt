@@ -1,0 +1,6 @@
+-- Laws that belong to no one function, lowest first.
+pub mod Seeks
+pub mod Entering
+pub mod Rising
+pub mod Finding
+pub mod Longer

@@ -1,0 +1,6 @@
+-- Reading an open segment. What a reader must believe:
+pub mod Lookups
+pub mod Answers
+-- What the cursors and the code's answers stand for:
+pub mod Cursors
+pub mod Found
