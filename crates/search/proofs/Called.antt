@@ -1,0 +1,123 @@
+-- The calls: the checks of a question, the opening, the search behind them.
+-- Assumes nothing.
+use mathlib.Core.Path.{_≡_, refl, _∙_}
+use mathlib.Core.Bool.{Bool, true, false, _&&_, and-false}
+use mathlib.Core.List.{List, [], _∷_}
+use mathlib.Core.Logic.{_⊎_, inl, inr}
+use Prim.Native.Nat.{ℕ, _≤_, _<_}
+use native.Mathlib.Omega.{arith}
+use lib.Dec.{leb}
+use lib.ListN.{length}
+use borrow.Author.Tests.{le-leb, lt-leb}
+use Rattle.codec.specs.Utf8.{utf8}
+use Rattle.segment.specs.declared.metadata.Checked.the-variants as check
+use Rattle.segment.specs.declared.refusal.Refusal.{Refusal}
+use Rattle.segment.specs.Refusals.{too-large, invalid-utf8}
+use Rattle.segment.specs.Results.{Result, ok, refuse, _>>=_}
+use Rattle.segment.specs.Results as results
+use Rattle.segment.specs.Records.{Segment}
+use Rattle.segment.specs.Texts.{ends-fit, names}
+use Rattle.segment.specs.Opening.{open-segment}
+use Rattle.segment.specs.Walks.{checked}
+use Rattle.segment.proofs.Accepted.{passed-ok, refused-is}
+use Rattle.reading.specs.declared.replies.Counted.{Counted}
+use Rattle.reading.specs.declared.replies.Counted.the-variants as counted
+use Rattle.search.specs.declared.document.Ask.{Ask}
+use Rattle.search.specs.Questions.{Rule, Unordered, idle, search, check-names, check-question, search-text, search-two}
+use Rattle.search.specs.Standing.{rule-of}
+use Rattle.search.specs.Decoded.{two-checks, answer-in, Replies}
+use Rattle.search.specs.Asked.{Text-answered, Two-answered}
+use Rattle.search.proofs.Shapes.{shape-is}
+use Rattle.search.proofs.Well-formed.{passes-exactly}
+use Rattle.search.proofs.Answering.{answers-idle}
+
+-- ---- two names
+
+module _ (a b : List ℕ) where
+  pub two-large : (16777216 < length a) ⊎ (16777216 < length b) → refuse too-large ≡ two-checks a b
+  unfolding two-checks
+  two-large (inl h) = rw (lt-leb (length a) 16777216 h)
+  two-large (inr h) = rw (lt-leb (length b) 16777216 h, and-false (leb (length a) 16777216))
+
+  module _ (first : length a ≤ 16777216) (second : length b ≤ 16777216) where
+    two-small : check-names (a ∷ b ∷ []) ≡ two-checks a b
+    unfolding two-checks
+    two-small = rw (le-leb (length a) 16777216 first, le-leb (length b) 16777216 second)
+
+    pub two-bytes : (utf8 a ≡ false) ⊎ (utf8 b ≡ false) → refuse invalid-utf8 ≡ two-checks a b
+    unfolding check-names
+    two-bytes (inl e) = rw (← two-small, e)
+    two-bytes (inr e) = rw (← two-small, e) (step (utf8 a))
+      where
+        step : (t : Bool) → _≡_ {A = Result (Unit {0})} (refuse invalid-utf8) (results.check t invalid-utf8 >>= λ _. refuse invalid-utf8)
+        step true = refl
+        step false = refl
+
+    pub two-fine : utf8 a ≡ true → utf8 b ≡ true → ok tt ≡ two-checks a b
+    unfolding check-names
+    two-fine e f = rw (← two-small, e, f)
+
+-- ---- behind the checks
+
+pub refused : {answer : Result (List ℕ)} {ids : List ℕ} {x : Refusal} → answer ≡ refuse x → Replies answer ids (counted.Refused x) ids
+refused e = rw e (refl, refl)
+
+module _ (bytes : List ℕ) (a : Ask) (ns : List (List ℕ)) (ids : List ℕ) {answer : Result (List ℕ)}
+    (is : answer ≡ search bytes (rule-of a) ns (length ids)) where
+  pub closed : {x : Refusal} → open-segment bytes ≡ refuse x → Replies answer ids (counted.Refused x) ids
+  unfolding search
+  closed e = refused (is ∙ rw e)
+
+  module _ {s : Segment} (opens : open-segment bytes ≡ ok s) where
+    pub idles : idle (rule-of a) (length ns) ≡ true → Replies answer ids (counted.Count 0) ids
+    unfolding search
+    idles t = rw (is, opens, answers-idle s (rule-of a) ns t, le-leb 0 (length ids) (omega arith)) (refl, refl)
+
+    pub answered : {r : Counted} {after : List ℕ} → Replies (answer-in s a ns (length ids)) ids r after → Replies answer ids r after
+    unfolding search
+    answered p = rw (is, opens) p
+
+-- ---- names in one text
+
+pub text-reply : {bytes : List ℕ} {a : Ask} {text ends ids : List ℕ} {r : Counted} {after : List ℕ}
+    → Replies (search-text bytes (rule-of a) text ends (length ids)) ids r after → Text-answered bytes a text ends ids r after
+text-reply p = record { reply = p .0; left = p .1 }
+
+module _ (text ends : List ℕ) where
+  pub text-stops : (bytes : List ℕ) (rule : Rule) (room : ℕ) {x : Refusal} → check.Refused x ≡ checked (check-question text ends)
+      → search-text bytes rule text ends room ≡ refuse x
+  unfolding search-text
+  text-stops bytes rule room e = rw (refused-is (check-question text ends) e)
+
+  module _ (passed : check.Passed ≡ checked (check-question text ends)) where
+    pub text-goes : (bytes : List ℕ) (rule : Rule) (room : ℕ) → search-text bytes rule text ends room ≡ search bytes rule (names 0 ends text) room
+    unfolding search-text
+    text-goes bytes rule room = rw (passed-ok (check-question text ends) passed .1)
+
+    pub text-fits : (ends-fit 0 ends (length text) ≡ true) × (length ends ≤ 128)
+    text-fits =
+        let w = passes-exactly text ends .0 (passed-ok (check-question text ends) passed .1) in
+        (shape-is text ends .1 (w .shape), w .few)
+
+-- ---- two names, searched
+
+pub two-reply : {bytes : List ℕ} {window : ℕ} {a b ids : List ℕ} {r : Counted} {after : List ℕ}
+    → Replies (search-two bytes window a b (length ids)) ids r after → Two-answered bytes window a b ids r after
+two-reply p = record { reply = p .0; left = p .1 }
+
+module _ (bytes : List ℕ) (window : ℕ) (a b : List ℕ) (room : ℕ) where
+  two-search : search-two bytes window a b room ≡ (two-checks a b >>= λ _. search bytes (Unordered window) (a ∷ b ∷ []) room)
+  unfolding search-two two-checks
+  two-search =
+      step (results.check (leb (length a) 16777216 && leb (length b) 16777216) too-large) (check-names (a ∷ b ∷ []))
+      (search bytes (Unordered window) (a ∷ b ∷ []) room)
+    where
+      step : (r t : Result (Unit {0})) (next : Result (List ℕ)) → (r >>= λ _. t >>= λ _. next) ≡ ((r >>= λ _. t) >>= λ _. next)
+      step (ok u) t next = refl
+      step (refuse x) t next = refl
+
+  pub two-stops : {x : Refusal} → check.Refused x ≡ checked (two-checks a b) → search-two bytes window a b room ≡ refuse x
+  two-stops e = two-search ∙ rw (refused-is (two-checks a b) e)
+
+  pub two-goes : check.Passed ≡ checked (two-checks a b) → search-two bytes window a b room ≡ search bytes (Unordered window) (a ∷ b ∷ []) room
+  two-goes e = two-search ∙ rw (passed-ok (two-checks a b) e .1)

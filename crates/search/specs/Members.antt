@@ -1,0 +1,30 @@
+-- Lists: what stands in one, and which elements pass a test.
+use mathlib.Core.Path.{_≡_}
+use mathlib.Core.Bool.{Bool, true, false, cond, _&&_, _||_}
+use mathlib.Core.List.{List, [], _∷_, _++_}
+use mathlib.Core.Logic.{_⊎_}
+
+infix 20 _∈_
+abbrev pub _∈_ : {A : Type 0} → A → List A → Type 0
+x ∈ [] = ⊥
+x ∈ (y ∷ ys) = (x ≡ y) ⊎ (x ∈ ys)
+
+module _ {A : Type 0} where
+  -- every element passes
+  unfoldable pub every : (A → Bool) → List A → Bool
+  every f [] = true
+  every f (x ∷ xs) = f x && every f xs
+
+  -- some element passes
+  unfoldable pub some-of : (A → Bool) → List A → Bool
+  some-of f [] = false
+  some-of f (x ∷ xs) = f x || some-of f xs
+
+  -- the elements that pass, in their order
+  unfoldable pub kept : (A → Bool) → List A → List A
+  kept f [] = []
+  kept f (x ∷ xs) = let later = kept f xs in cond (f x) (x ∷ later) later
+
+  unfoldable pub joined : List (List A) → List A
+  joined [] = []
+  joined (xs ∷ xss) = xs ++ joined xss
