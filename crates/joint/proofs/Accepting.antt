@@ -1,0 +1,40 @@
+-- The writer accepts exactly where no refusal is named, with the room that the format gives.
+-- Assumes nothing.
+use mathlib.Core.Path.{_≡_}
+use mathlib.Core.List.{List}
+use mathlib.Core.Logic.{_↔_}
+use Prim.Native.Nat.{ℕ}
+use Rattle.segment.specs.Results.{ok}
+use Rattle.writer.specs.Given.{Lists}
+use Rattle.writer.specs.Writing.{write}
+use Rattle.writer.specs.Acceptance as writer
+use Rattle.writer.proofs.Accepts.{accepts-exactly}
+use Rattle.joint.specs.Demand.{No-refusal}
+use Rattle.joint.proofs.Sizes.{segment-length}
+
+module _ (l : Lists) (room : ℕ) where
+  pub refusals-agree : writer.No-refusal l room ↔ No-refusal l room
+  refusals-agree = (
+    λ n. record {
+      small = n .small;
+      shape = n .shape;
+      documents-rise = n .documents-rise;
+      names-rise = n .names-rise;
+      each = n .each;
+      room-enough = rw segment-length at (n .room-enough);
+    },
+    λ n. record {
+      small = n .small;
+      shape = n .shape;
+      documents-rise = n .documents-rise;
+      names-rise = n .names-rise;
+      each = n .each;
+      room-enough = rw segment-length (n .room-enough);
+    },
+  )
+
+  pub accepts : ((bytes : List ℕ) × (write l room ≡ ok bytes)) ↔ No-refusal l room
+  accepts = (
+    λ a. refusals-agree .0 (accepts-exactly l room .0 a),
+    λ n. accepts-exactly l room .1 (refusals-agree .1 n),
+  )

@@ -1,0 +1,110 @@
+-- From what the writer and the search answer to the claim about a call that writes and then asks.
+-- Assumes nothing.
+use mathlib.Core.Path.{_≡_, refl, sym, ap, subst, _∙_}
+use mathlib.Core.Bool.{Bool, true, false}
+use mathlib.Core.List.{List, [], _∷_, _++_}
+use Prim.Native.Nat.{ℕ, _≤_}
+use native.Mathlib.Omega.{arith}
+use lib.ListN.{length, take, drop, length-append}
+use lib.Seq.{take-append-seam}
+use Rattle.segment.specs.declared.refusal.Refusal.{Refusal}
+use Rattle.segment.specs.Results.{Result, ok, refuse}
+use Rattle.segment.specs.Texts.{names}
+use Rattle.reading.specs.declared.replies.Counted.{Counted}
+use Rattle.reading.specs.Answers.{fronted}
+use Rattle.writer.specs.declared.write.Written.{Written}
+use Rattle.writer.specs.declared.write.Written.the-variants as written
+use Rattle.writer.specs.Given.{Lists}
+use Rattle.writer.specs.Writing.{write}
+use Rattle.writer.specs.Back.{Typed}
+use Rattle.writer.specs.Stores.{Wrote, length-of-written, slice-after}
+use Rattle.search.specs.declared.document.Ask.{Ask}
+use Rattle.search.specs.Questions.{Rule, Unordered}
+use Rattle.search.specs.Standing.{rule-of}
+use Rattle.search.specs.Asked.{near-ask, Text-answered, Two-answered}
+use Rattle.joint.specs.declared.ask.Asked.{Asked}
+use Rattle.joint.specs.declared.ask.Asked.the-variants as asked
+use Rattle.joint.specs.Demand.{Listed, Demand-3, Proper-text, Proper-two, near-rule}
+use Rattle.joint.proofs.Accepting.{accepts}
+use Rattle.joint.proofs.Demanded.{written-back, listed, listed-two}
+
+-- ---- what the writer's reply says of the definition's answer
+
+refused-by : (r : Result (List ℕ)) {x : Refusal} → length-of-written r ≡ written.Refused x → r ≡ refuse x
+refused-by (ok bytes) e = let z : _≡_ {A = ℕ} 0 1 = cc in absurd (omega arith)
+refused-by (refuse y) e = cc
+
+pub record Wrote-bytes (l : Lists) (out : List ℕ) (n : ℕ) (out′ : List ℕ) : Type 0 where
+  pub bytes : List ℕ
+  pub answer : write l (length out) ≡ ok bytes
+  pub long : n ≡ length bytes
+  pub left : out′ ≡ fronted bytes out
+
+wrote-if : (l : Lists) (out : List ℕ) (n : ℕ) (out′ : List ℕ) (r : Result (List ℕ)) → write l (length out) ≡ r
+    → length-of-written r ≡ written.Length n → out′ ≡ slice-after r out → Wrote-bytes l out n out′
+wrote-if l out n out′ (ok bytes) a e f = record { bytes = bytes; answer = a; long = cc; left = f }
+wrote-if l out n out′ (refuse x) a e f = let z : _≡_ {A = ℕ} 0 1 = cc in absurd (omega arith)
+
+module _ (l : Lists) (out : List ℕ) {w : Written} {out′ : List ℕ} (wrote : Wrote l out w out′) where
+  pub wrote-bytes : {n : ℕ} → w ≡ written.Length n → Wrote-bytes l out n out′
+  wrote-bytes {n} e = wrote-if l out n out′ (write l (length out)) refl (sym (wrote .reply) ∙ e) (wrote .left)
+
+  -- the call's slice is as long as before
+  pub refused-claim : (rule : Rule) (ns : List (List ℕ)) (Proper : Type 0) (found : List ℕ) {x : Refusal} → w ≡ written.Refused x
+      → Demand-3 l out rule ns Proper found (asked.NotWritten x) out′ found
+  refused-claim rule ns Proper found e =
+      let r = refused-by (write l (length out)) (sym (wrote .reply) ∙ e) in
+      record {
+        accepts = (
+          λ a. let is = a .2 in let z : _≡_ {A = ℕ} 0 1 = cc in absurd (omega arith),
+          λ fine. let b = accepts l (length out) .1 fine in let is = sym r ∙ b .1 in let z : _≡_ {A = ℕ} 0 1 = cc in absurd (omega arith),
+        );
+        refuses = λ x is. (wrote .left ∙ ap (λ r. slice-after r out) r, refl);
+        gives-back = λ n c is. let z : _≡_ {A = ℕ} 0 1 = cc in absurd (omega arith);
+        lists = λ n c is. let z : _≡_ {A = ℕ} 0 1 = cc in absurd (omega arith);
+      }
+
+-- ---- written and asked
+
+module _ (l : Lists) (out : List ℕ) (typed : Typed l) {n : ℕ} {out′ : List ℕ} (w : Wrote-bytes l out n out′) where
+  -- the bytes that are asked
+  pub asked-bytes : take n out′ ≡ w .bytes
+  asked-bytes =
+      ap (take n) (w .left) ∙ ap (λ k. take k (fronted (w .bytes) out)) (w .long) ∙ take-append-seam (w .bytes) (drop (length (w .bytes)) out)
+
+  pub bytes-fit : n ≤ length out′
+  bytes-fit = omega (arith, w .long, ap length (w .left), length-append (w .bytes) (drop (length (w .bytes)) out))
+
+  answered-claim : (rule : Rule) (ns : List (List ℕ)) (Proper : Type 0) (found : List ℕ) (c : Counted) (found′ : List ℕ)
+      → (Proper → Listed l rule ns found c found′) → Demand-3 l out rule ns Proper found (asked.Answer n c) out′ found′
+  answered-claim rule ns Proper found c found′ lists = record {
+    accepts = (λ a. accepts l (length out) .0 (w .bytes, w .answer), λ fine. (n, c, refl));
+    refuses = λ x is. let z : _≡_ {A = ℕ} 0 1 = cc in absurd (omega arith);
+    gives-back = λ m d is.
+        let same : n ≡ m = cc in
+        rw (sym same, w .long, w .left) (written-back l out (w .bytes) typed (w .answer));
+    lists = λ m d is proper. let same : c ≡ d = cc in rw (sym same) (lists proper);
+  }
+
+  pub text-claim : (a : Ask) (rule : Rule) → rule-of a ≡ rule → (text ends found : List ℕ) {c : Counted} {found′ : List ℕ}
+      → Text-answered (take n out′) a text ends found c found′
+      → Demand-3 l out rule (names 0 ends text) (Proper-text rule text ends) found (asked.Answer n c) out′ found′
+  text-claim a rule is text ends found {c} {found′} t =
+      answered-claim rule (names 0 ends text) (Proper-text rule text ends) found c found′
+      (λ proper.
+      rw (t .reply, t .left, asked-bytes, is)
+      (listed l (length out) (w .bytes) typed (w .answer) rule text ends (proper .well-formed) (proper .enough) found))
+
+  pub two-claim : (window : ℕ) (a b found : List ℕ) {c : Counted} {found′ : List ℕ}
+      → Two-answered (take n out′) window a b found c found′
+      → Demand-3 l out (Unordered window) (a ∷ b ∷ []) (Proper-two window a b) found (asked.Answer n c) out′ found′
+  two-claim window a b found {c} {found′} t =
+      answered-claim (Unordered window) (a ∷ b ∷ []) (Proper-two window a b) found c found′
+      (λ proper.
+      rw (t .reply, t .left, asked-bytes)
+      (listed-two l (length out) (w .bytes) typed (w .answer) window a b
+      (proper .small-a) (proper .small-b) (proper .text-a) (proper .text-b) (proper .some-window) found))
+
+pub near-same : (ordered : Bool) (window : ℕ) → rule-of (near-ask ordered window) ≡ near-rule ordered window
+near-same true window = refl
+near-same false window = refl

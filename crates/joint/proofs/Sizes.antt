@@ -1,0 +1,53 @@
+-- How long a segment of what is handed in is: the number that document 01's format gives.
+-- Assumes nothing.
+use mathlib.Core.Path.{_≡_, refl}
+use mathlib.Core.List.{List, [], _∷_}
+use mathlib.Core.Option.{Option, none, some}
+use Prim.Native.Nat.{ℕ, _+_}
+use native.Mathlib.Omega.{arith}
+use lib.ListN.{length, length-append}
+use Rattle.segment.specs.Records.{Document, Posting, Term}
+use Rattle.writer.specs.Given.{Lists, given}
+use Rattle.writer.specs.Bytes.{gap, metadata-bytes, position-bytes, posting-bytes, postings-bytes, directory-bytes, name-bytes, lists-bytes, segment-bytes}
+use Rattle.writer.proofs.DirectoryBack.{directory-length}
+use Rattle.joint.specs.Own.{gap-from, documents-size, positions-size, postings-size, terms-size, segment-size}
+
+gap-same : (previous : Option ℕ) (v : ℕ) → gap previous v ≡ gap-from previous v
+gap-same none v = refl
+gap-same (some p) v = refl
+
+documents-length : (previous : Option ℕ) (ds : List Document) → length (metadata-bytes previous ds) ≡ documents-size previous ds
+unfolding metadata-bytes documents-size
+documents-length previous [] = refl
+documents-length previous (d ∷ ds) = rw gap-same (simp length-append (omega (arith, documents-length (some (d .id)) ds)))
+
+positions-length : (previous : Option ℕ) (ps : List ℕ) → length (position-bytes previous ps) ≡ positions-size previous ps
+unfolding position-bytes positions-size
+positions-length previous [] = refl
+positions-length previous (p ∷ ps) = rw gap-same (simp length-append (omega (arith, positions-length (some p) ps)))
+
+postings-length : (previous : Option ℕ) (ps : List Posting) → length (postings-bytes previous ps) ≡ postings-size previous ps
+unfolding postings-bytes posting-bytes postings-size
+postings-length previous [] = refl
+postings-length previous (p ∷ ps) =
+    rw gap-same (simp length-append (omega (arith, positions-length none (p .positions), postings-length (some (p .doc)) ps)))
+
+-- the three sections that grow with the terms
+terms-length : (ts : List Term) (name-at list-at : ℕ)
+    → length (directory-bytes name-at list-at ts) + length (name-bytes ts) + length (lists-bytes ts) ≡ terms-size ts
+unfolding name-bytes lists-bytes terms-size
+terms-length [] name-at list-at = omega (arith, directory-length [] name-at list-at)
+terms-length (t ∷ ts) name-at list-at =
+    simp length-append
+    (omega (
+      arith,
+      directory-length (t ∷ ts) name-at list-at,
+      directory-length ts 0 0,
+      postings-length none (t .postings),
+      terms-length ts 0 0,
+    ))
+
+pub segment-length : (l : Lists) → length (segment-bytes (given l)) ≡ segment-size l
+unfolding segment-bytes
+segment-length l =
+    simp length-append (omega (arith, terms-length (given l .terms) 0 0, documents-length none (given l .documents)))

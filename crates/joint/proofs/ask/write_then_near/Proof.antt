@@ -1,0 +1,105 @@
+-- What the writer and the search ensure, put together by proofs/Claimed.antt.
+-- Assumes nothing.
+use mathlib.Core.Path.{_≡_, refl, sym}
+use mathlib.Core.List.{List}
+use Prim.Native.Nat.{ℕ}
+use native.Mathlib.Omega.{arith}
+use lib.Seq.{length-take-le}
+use denote.Ref.{now}
+use borrow.Author.Needs.{needs}
+use Rattle.writer.specs.Given.{Lists}
+use Rattle.writer.specs.Flat.{lists}
+use Rattle.writer.specs.Back.{Typed}
+use Rattle.search.specs.Asked.{near-ask}
+use Rattle.joint.specs.Demand.{near-rule}
+use Rattle.joint.proofs.Claimed.{wrote-bytes, bytes-fit, refused-claim, text-claim, near-same}
+use Rattle.joint.proofs.ask.write_then_near.Statement.{statement}
+use Rattle.joint.proofs.ask.write_then_near.Tie as tie
+
+-- where the writer's lists are known to hold what their types can
+abbrev known : tie.After-write-positional-segment → tie.After-shared-slice-known8
+known c = c .before .before .before .before .before .before
+
+abbrev start : tie.After-write-positional-segment → tie.Start
+start c = known c .before .before .before .before .before .before .before .before
+
+abbrev handed-in : tie.After-write-positional-segment → Lists
+handed-in c =
+    let a = start c .args in
+    lists (now (a .ids)) (now (a .lengths)) (now (a .text)) (now (a .ends))
+    (now (a .posting-counts)) (now (a .posting-ids)) (now (a .position-counts)) (now (a .positions))
+
+typed : (c : tie.After-write-positional-segment) → Typed (handed-in c)
+typed c =
+    let k = known c in
+    record {
+      ids = λ i. omega (arith, k .before .before .before .before .before .before .before .shared-slice-known .given i);
+      lengths = λ i. omega (arith, k .before .before .before .before .before .before .shared-slice-known2 .given i);
+      text = λ i. omega (arith, k .before .before .before .before .before .shared-slice-known3 .given i);
+      ends = λ i. omega (arith, k .before .before .before .before .shared-slice-known4 .given i);
+      posting-counts = λ i. omega (arith, k .before .before .before .shared-slice-known5 .given i);
+      posting-ids = λ i. omega (arith, k .before .before .shared-slice-known6 .given i);
+      position-counts = λ i. omega (arith, k .before .shared-slice-known7 .given i);
+      positions = λ i. omega (arith, k .shared-slice-known8 .given i);
+    }
+
+write-positional-segment-requires : tie.Need-write-positional-segment-requires
+write-positional-segment-requires c κs = search needs
+
+enum-known-n : tie.Need-enum-known-n
+enum-known-n c = search needs
+
+-- the slice has the bytes that were written
+slice-reshare-prefix-near-match-terms-strs : tie.Need-slice-reshare-prefix-near-match-terms-strs
+slice-reshare-prefix-near-match-terms-strs c =
+    let w = c .before .before .before .before .before in
+    bytes-fit (handed-in w) (now (start w .args .out)) (typed w) (wrote-bytes _ _ (w .write-positional-segment .ensures) (c .before .n .given .1))
+
+slice-aggregate-near-match-terms-strs : tie.Need-slice-aggregate-near-match-terms-strs
+slice-aggregate-near-match-terms-strs c = sym (length-take-le _ _ (slice-reshare-prefix-near-match-terms-strs (c .before)))
+
+near-match-terms-strs-requires : tie.Need-near-match-terms-strs-requires
+near-match-terms-strs-requires c κs = search needs
+
+enum-known-x : tie.Need-enum-known-x
+enum-known-x c = search needs
+
+same-length : tie.Need-same-length
+same-length c = search needs
+
+same-length-2 : tie.Need-same-length-2
+same-length-2 c = search needs
+
+returns : tie.Need-returns
+returns c =
+    let q = c .before .before in
+    let n = q .before .before .before .before in
+    let w = n .before .before .before .before in
+    let a = start w .args in
+    text-claim (handed-in w) (now (a .out)) (typed w) (wrote-bytes _ _ (w .write-positional-segment .ensures) (n .n .given .1))
+    (near-ask (a .ordered) (a .window)) (near-rule (a .ordered) (a .window)) (near-same (a .ordered) (a .window))
+    (now (a .question)) (now (a .question-ends)) (now (a .found)) (q .near-match-terms-strs .ensures)
+
+same-length-3 : tie.Need-same-length-3
+same-length-3 c = search needs
+
+returns-2 : tie.Need-returns-2
+returns-2 c =
+    let w = c .before .before .before .before .before in
+    refused-claim (handed-in w) (now (start w .args .out)) (w .write-positional-segment .ensures) _ _ _ (now (start w .args .found)) (c .before .x .given .1)
+
+pub write-then-near-spec : {M : Type 1} → statement M
+write-then-near-spec =
+    tie.close
+    (tie.spec
+    write-positional-segment-requires
+    enum-known-n
+    slice-reshare-prefix-near-match-terms-strs
+    slice-aggregate-near-match-terms-strs
+    near-match-terms-strs-requires
+    enum-known-x
+    same-length
+    same-length-2
+    returns
+    same-length-3
+    returns-2)

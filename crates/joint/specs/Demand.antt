@@ -1,0 +1,93 @@
+-- Demand 3: one claim across writer and search, for all the writer's inputs and all the questions that it names. Nothing here names what
+-- the writer or the search computes: only what is handed in, document 01's format, and the rules in words.
+use Prim.Native.Nat.{ℕ, _≤_}
+use mathlib.Core.Path.{_≡_}
+use mathlib.Core.Bool.{Bool, true, false}
+use mathlib.Core.List.{List, _++_, map}
+use mathlib.Core.Logic.{_↔_}
+use lib.ListN.{length, take, drop}
+use Rattle.codec.specs.Utf8.{Is-utf8}
+use Rattle.segment.specs.declared.refusal.Refusal.{Refusal}
+use Rattle.segment.specs.Results.{ok}
+use Rattle.segment.specs.Records.{Term}
+use Rattle.reading.specs.declared.replies.Counted.{Counted}
+use Rattle.reading.specs.declared.replies.Counted.the-variants as counted
+use Rattle.writer.specs.Given.{Lists, given, laid-flat}
+use Rattle.writer.specs.Acceptance.{Rising, Names-rising, Term-fine, Small, Shape}
+use Rattle.writer.specs.Back.{decode-segment, all-position-counts}
+use Rattle.search.specs.Members.{_∈_}
+use Rattle.search.specs.Questions.{Rule, Phrase, Ordered, Unordered, Meets}
+use Rattle.search.specs.Claims.{Well-formed}
+use Rattle.joint.specs.declared.ask.Asked.{Asked}
+use Rattle.joint.specs.declared.ask.Asked.the-variants as asked
+use Rattle.joint.specs.Own.{own, segment-size}
+
+-- document 01 names no refusal for what is handed in
+pub record No-refusal (l : Lists) (room : ℕ) : Type 0 where
+  pub small : Small l
+  pub shape : Shape l
+  pub documents-rise : Rising (map (λ d. d .id) (given l .documents))
+  pub names-rise : Names-rising (map (λ t. t .name) (given l .terms))
+  pub each : (t : Term) → t ∈ given l .terms → Term-fine (given l .documents) t
+  pub room-enough : segment-size l ≤ room
+
+-- n bytes were written: they open and decode to what was handed in, in its order; laid flat that is the eight lists; the position counts
+-- add up to the steps handed in; and the slice's other places are as they were
+pub record Given-back (l : Lists) (out : List ℕ) (n : ℕ) (out′ : List ℕ) : Type 0 where
+  pub fits : n ≤ length out
+  pub back : decode-segment (take n out′) ≡ ok (given l)
+  pub flat : laid-flat (given l) ≡ l
+  pub counted : all-position-counts (given l .terms) ≡ length (l .positions)
+  pub rest : drop n out′ ≡ drop n out
+
+-- a phrase of 1 name or more, a near question of 2 or more with a window of 1 or more (Well-formed has at most 128)
+abbrev pub Enough : Rule → (sounds : ℕ) → Type 0
+Enough Phrase n = 1 ≤ n
+Enough (Ordered w) n = (2 ≤ n) × (1 ≤ w)
+Enough (Unordered w) n = (2 ≤ n) × (1 ≤ w)
+
+-- the ids of the documents handed in whose own positions meet the question, ascending and without repeats
+pub record Those-that-meet (l : Lists) (rule : Rule) (ns : List (List ℕ)) (ids : List ℕ) : Type 0 where
+  pub only : (d : ℕ) → d ∈ ids → (d ∈ map (λ x. x .id) (given l .documents)) × Meets rule (own l d) ns
+  pub all : (d : ℕ) → d ∈ map (λ x. x .id) (given l .documents) → Meets rule (own l d) ns → d ∈ ids
+  pub rising : Rising ids
+
+-- the search does not refuse: it answers their number, and they fill that many first places of the buffer
+pub record Listed (l : Lists) (rule : Rule) (ns : List (List ℕ)) (found : List ℕ) (r : Counted) (found′ : List ℕ) : Type 0 where
+  pub some : (ids : List ℕ) × Those-that-meet l rule ns ids
+  pub answer : (ids : List ℕ) → Those-that-meet l rule ns ids → length ids ≤ length found
+      → (r ≡ counted.Count (length ids)) × (found′ ≡ ids ++ drop (length ids) found)
+
+-- ---- the claim of a call that writes and then asks exactly the bytes written
+
+-- written, n bytes long, and asked
+abbrev pub Answered-by : Asked → Type 0
+Answered-by r = (n : ℕ) × (c : Counted) × (r ≡ asked.Answer n c)
+
+-- `Proper`: the question is one that demand 3 names
+pub record Demand-3 (l : Lists) (out : List ℕ) (rule : Rule) (ns : List (List ℕ)) (Proper : Type 0) (found : List ℕ) (r : Asked) (out′ found′ : List ℕ) : Type 0 where
+  -- the writer accepts exactly when document 01 names no refusal, and a refusal changes no lent place
+  pub accepts : Answered-by r ↔ No-refusal l (length out)
+  pub refuses : (x : Refusal) → r ≡ asked.NotWritten x → (out′ ≡ out) × (found′ ≡ found)
+  -- the bytes give back what was handed in
+  pub gives-back : (n : ℕ) (c : Counted) → r ≡ asked.Answer n c → Given-back l out n out′
+  -- the search does not refuse, and lists exactly the documents whose own positions meet the question
+  pub lists : (n : ℕ) (c : Counted) → r ≡ asked.Answer n c → Proper → Listed l rule ns found c found′
+
+-- names in one text: well-formed, and enough of them
+pub record Proper-text (rule : Rule) (text ends : List ℕ) : Type 0 where
+  pub well-formed : Well-formed text ends
+  pub enough : Enough rule (length ends)
+
+-- two names (near_match)
+pub record Proper-two (window : ℕ) (a b : List ℕ) : Type 0 where
+  pub small-a : length a ≤ 16777216
+  pub small-b : length b ≤ 16777216
+  pub text-a : Is-utf8 a
+  pub text-b : Is-utf8 b
+  pub some-window : 1 ≤ window
+
+-- near, in the order named or in any
+abbrev pub near-rule : Bool → ℕ → Rule
+near-rule true w = Ordered w
+near-rule false w = Unordered w

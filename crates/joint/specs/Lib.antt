@@ -1,0 +1,5 @@
+-- Demand 3: one claim across writer and search. In words, over what is handed in.
+pub mod Own
+pub mod Demand
+pub mod Marked
+pub mod Uneven

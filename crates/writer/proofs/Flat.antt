@@ -1,0 +1,107 @@
+-- What the eight lists stand for, laid flat again, is the eight lists; and its position counts add up.
+-- Assumes nothing.
+use mathlib.Core.Path.{_≡_, refl, sym, ap, _∙_}
+use mathlib.Core.Bool.{true}
+use mathlib.Core.List.{List, [], _∷_, _++_, map}
+use Prim.Native.Nat.{ℕ, _+_}
+use native.Mathlib.Nat.{zero-add}
+use native.Mathlib.Omega.{arith}
+use lib.ListN.{length, length-append, length-map}
+use Rattle.segment.specs.Records.{Posting, Term}
+use Rattle.segment.specs.Metadata.{document}
+use Rattle.segment.specs.Postings.{total-positions}
+use Rattle.segment.specs.Texts.{ends-fit, names}
+use Rattle.writer.specs.Given.{Lists, given, laid-flat, parts, joined, total, posting, term, all-postings, ends-from}
+use Rattle.writer.specs.Bytes.{name-bytes}
+use Rattle.writer.specs.Acceptance.{Shape}
+use Rattle.writer.specs.Back.{all-position-counts}
+use Rattle.writer.proofs.Shapes.{shape-is}
+use Rattle.writer.proofs.Parts.{lefts, rights, paired-right, parts-count, parts-joined, parts-lengths, names-count, names-joined, names-ends}
+
+module _ (l : Lists) (s : Shape l) where
+  abbrev cut : List (List ℕ)
+  cut = parts (l .position-counts) (l .positions)
+
+  abbrev lists : List (List Posting)
+  lists = parts (l .posting-counts) (all-postings l)
+
+  abbrev words : List (List ℕ)
+  words = names 0 (l .ends) (l .text)
+
+  counted : length (l .posting-ids) ≡ length cut
+  counted = sym (s .counts) ∙ sym (parts-count (l .position-counts) (l .positions))
+
+  ids-back : map (λ p. p .doc) (all-postings l) ≡ l .posting-ids
+  ids-back = lefts posting (λ p. p .doc) (λ x y. refl) (l .posting-ids) cut counted
+
+  many : total (l .posting-counts) ≡ length (all-postings l)
+  many = s .postings ∙ sym (ap length ids-back) ∙ length-map (all-postings l) (λ p. p .doc)
+
+  named : length words ≡ length lists
+  named = names-count 0 (l .ends) (l .text) ∙ sym (s .terms) ∙ sym (parts-count (l .posting-counts) (all-postings l))
+
+  names-back : map (λ t. t .name) (given l .terms) ≡ words
+  unfolding given
+  names-back = lefts term (λ t. t .name) (λ x y. refl) words lists named
+
+  postings-back : joined (map (λ t. t .postings) (given l .terms)) ≡ all-postings l
+  unfolding given
+  postings-back =
+      ap joined (rights term (λ t. t .postings) (λ x y. refl) words lists named)
+      ∙ parts-joined (l .posting-counts) (all-postings l) many
+
+  fits : ends-fit 0 (l .ends) (0 + length (l .text)) ≡ true
+  fits = rw zero-add (shape-is (l .text) (l .ends) .1 (s .text))
+
+  pub flat-again : laid-flat (given l) ≡ l
+  unfolding laid-flat given
+  flat-again = λ i. record {
+    ids = lefts document (λ d. d .id) (λ x y. refl) (l .ids) (l .lengths) (s .documents) i;
+    lengths = rights document (λ d. d .len) (λ x y. refl) (l .ids) (l .lengths) (s .documents) i;
+    text = (ap joined names-back ∙ names-joined 0 (l .ends) (l .text) fits) i;
+    ends = (ap (ends-from 0) names-back ∙ names-ends 0 (l .ends) (l .text) fits) i;
+    posting-counts =
+        (paired-right term (λ t. length (t .postings)) length (λ x y. refl) words lists named
+        ∙ parts-lengths (l .posting-counts) (all-postings l) (omega (arith, many))) i;
+    posting-ids = (ap (map (λ p. p .doc)) postings-back ∙ ids-back) i;
+    position-counts =
+        (ap (map (λ p. length (p .positions))) postings-back
+        ∙ paired-right posting (λ p. length (p .positions)) length (λ x y. refl) (l .posting-ids) cut counted
+        ∙ parts-lengths (l .position-counts) (l .positions) (omega (arith, s .positions))) i;
+    positions =
+        (ap (λ (ps : List Posting). joined (map (λ p. p .positions) ps)) postings-back
+        ∙ ap joined (rights posting (λ p. p .positions) (λ x y. refl) (l .posting-ids) cut counted)
+        ∙ parts-joined (l .position-counts) (l .positions) (s .positions)) i;
+  }
+
+  -- what the segment's header counts, and its names
+  pub documents-count : length (given l .documents) ≡ length (l .ids)
+  unfolding laid-flat
+  documents-count = sym (length-map (given l .documents) (λ d. d .id)) ∙ ap (λ (k : Lists). length (k .ids)) flat-again
+
+  pub terms-count : length (given l .terms) ≡ length (l .ends)
+  unfolding laid-flat
+  terms-count =
+      sym (length-map (given l .terms) (λ t. length (t .postings))) ∙ ap (λ (k : Lists). length (k .posting-counts)) flat-again ∙ s .terms
+
+  pub text-is : name-bytes (given l .terms) ≡ l .text
+  unfolding laid-flat name-bytes
+  text-is = ap (λ (k : Lists). k .text) flat-again
+
+-- ---- the counts
+
+abbrev all-positions : List Posting → List ℕ
+all-positions ps = joined (map (λ p. p .positions) ps)
+
+total-is : (ps qs : List Posting) → total-positions ps + length (all-positions qs) ≡ length (all-positions (ps ++ qs))
+unfolding total-positions
+total-is [] qs = zero-add (length (all-positions qs))
+total-is (p ∷ ps) qs = simp length-append (omega (arith, total-is ps qs))
+
+counts-are : (ts : List Term) → all-position-counts ts ≡ length (all-positions (joined (map (λ t. t .postings) ts)))
+counts-are [] = refl
+counts-are (t ∷ ts) = ap (λ (n : ℕ). total-positions (t .postings) + n) (counts-are ts) ∙ total-is (t .postings) _
+
+pub counts-add-up : (l : Lists) → Shape l → all-position-counts (given l .terms) ≡ length (l .positions)
+unfolding laid-flat
+counts-add-up l s = counts-are (given l .terms) ∙ ap (λ (k : Lists). length (k .positions)) (flat-again l s)
