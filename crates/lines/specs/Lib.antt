@@ -1,0 +1,3 @@
+-- The listing of a segment as text.
+pub mod Listing
+pub mod Stores
