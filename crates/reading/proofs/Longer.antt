@@ -156,8 +156,15 @@ module _ (bytes : List ℕ) (l : TermList) (documents : List Document) {ps : Lis
   unfolding decode
   decoded-walked e = list-walked (check-gives (eqb (crc32Of (list-bytes bytes l)) (l .checksum)) _ _ e .1)
 
--- the counts of postings that are all there are their positions'
+-- postings that were read: as many as were asked for, and their counts are their positions'
 pub full-counts : (previous : Option ℕ) (ss : List Spot) → Fulls previous ss
     → map (λ s. s .count) ss ≡ map (λ p. length (p .positions)) (map posting-of ss)
 full-counts previous [] f = refl
 full-counts previous (s ∷ ss) f = rw (f .1 .long, full-counts (some (s .doc)) ss (f .2))
+
+module _ {n : ℕ} {previous : Option ℕ} {bytes : List ℕ} {ps : List Posting} (r : Postings-read n previous bytes ps) where
+  pub read-many : length ps ≡ n
+  read-many = ap length (sym (r .is)) ∙ length-map (held-postings n previous bytes) posting-of ∙ r .long
+
+  pub read-counts : map (λ s. s .count) (held-postings n previous bytes) ≡ map (λ p. length (p .positions)) ps
+  read-counts = rw (← r .is) (full-counts previous (held-postings n previous bytes) (r .full))

@@ -1,0 +1,282 @@
+// The calls on terms.
+use crate::replies::Frequency;
+use crate::replies::Listed;
+use crate::replies::Totals;
+use codec::utf8::is_utf8;
+use reading::positions::Positions;
+use reading::postings::Postings;
+use reading::replies::Counted;
+use reading::term::TermFound;
+use reading::term::decode_postings;
+use reading::term::find_term;
+use segment::fixed::long;
+use segment::ids::DocId;
+use segment::lists::Tally;
+use segment::metadata::Checked;
+use segment::opening::Opening;
+use segment::opening::open_layout;
+use segment::refusal::INVALID_UTF8;
+use segment::refusal::LIMIT;
+use segment::refusal::NO_ROOM;
+use segment::refusal::Refusal;
+use segment::refusal::TOO_LARGE;
+ghost use mathlib.Core.Path.{_≡_};
+ghost use mathlib.Core.Option.{none};
+ghost use mathlib.Core.List.{map};
+ghost use Prim.Native.Nat.{_+_, _≤_};
+ghost use lib.ListN.{length, drop};
+ghost use Rattle.segment.specs.Spots.{held-postings};
+ghost use Rattle.segment.specs.Walks.{checked};
+ghost use Rattle.reading.specs.Lookups.{named};
+ghost use Rattle.calls.specs.Calls.{df as df-of};
+ghost use Rattle.reading.specs.Cursors.{positions-from};
+ghost use Rattle.reading.specs.Answers.{fronted};
+ghost use Rattle.calls.specs.Answers.{df-answer, Docs-answered, Postings-answered, Positions-answered};
+ghost use Rattle.calls.specs.Found.{Decodes};
+ghost use Rattle.calls.specs.Filled.{Stored, Filled-postings, all-positions};
+
+// A questioned name: not too large, and UTF-8.
+pub fn check_name(name: &[u8]) -> Checked
+    ensures { λ r. ⌜ r ≡ checked (named (now (name .entry))) ⌝ }
+{
+    if LIMIT < name.len() {
+        return Checked::Refused(Refusal {
+            kind: TOO_LARGE,
+            which: 0,
+            index: 0,
+        });
+    }
+    if !is_utf8(name) {
+        return Checked::Refused(Refusal {
+            kind: INVALID_UTF8,
+            which: 0,
+            index: 0,
+        });
+    }
+    Checked::Passed
+}
+
+// In how many documents a term stands, as the directory has it; 0 for an unknown term. No list is decoded.
+pub fn df(bytes: &[u8], name: &[u8]) -> Frequency
+    ensures { λ r. ⌜ r ≡ df-answer (df-of (now (bytes .entry)) (now (name .entry))) ⌝ }
+{
+    if let Checked::Refused(x) = check_name(name) {
+        return Frequency::Refused(x);
+    }
+    match open_layout(bytes) {
+        Opening::Layout(at) => match find_term(bytes, at, name) {
+            TermFound::List(list) => Frequency::Df(list.df),
+            TermFound::Absent => Frequency::Df(0),
+        },
+        Opening::Refused(x) => Frequency::Refused(x),
+    }
+}
+
+// A term's list, decoded: where it lies, how many postings and positions it has.
+pub struct DecodedList {
+    pub start: usize,
+    pub df: u32,
+    pub positions: usize,
+}
+
+pub enum Decoding {
+    List(DecodedList),
+    Absent,
+    Refused(Refusal),
+}
+
+// The name checked, the segment opened, the term's list decoded whole.
+fn decode_term(bytes: &[u8], name: &[u8]) -> Decoding
+    ensures { λ r. ⌜ Decodes (now (bytes .entry)) (now (name .entry)) r ⌝ }
+{
+    if let Checked::Refused(x) = check_name(name) {
+        return Decoding::Refused(x);
+    }
+    let at = match open_layout(bytes) {
+        Opening::Layout(at) => at,
+        Opening::Refused(x) => {
+            return Decoding::Refused(x);
+        }
+    };
+    let list = match find_term(bytes, at, name) {
+        TermFound::List(list) => list,
+        TermFound::Absent => {
+            return Decoding::Absent;
+        }
+    };
+    match decode_postings(bytes, at, list) {
+        Tally::Positions(total) => Decoding::List(DecodedList {
+            start: list.start,
+            df: list.df,
+            positions: total,
+        }),
+        Tally::Refused(x) => Decoding::Refused(x),
+    }
+}
+
+// The documents of a list at the front of a buffer.
+fn fill_docs(bytes: &[u8], at: usize, df: u32, ids: &mut [u32])
+    requires { ⌜ length (held-postings df none (drop at (now bytes))) ≤ length (now ids) ⌝ }
+    ensures { λ r. ⌜ now (ids .exit) ≡ fronted (map (λ s. s .doc) (held-postings df none (drop at (now (bytes .entry))))) (now (ids .entry)) ⌝ }
+{
+    let mut c = Postings::start(bytes, at, df);
+    let mut i: usize = 0;
+    while 0 < c.left {
+        let doc = c.doc;
+        ids[i] = doc.0;
+        c = c.advance(bytes);
+        i += 1;
+    }
+}
+
+// The ids of the documents in which a term stands, rising; none for an unknown term.
+pub fn docs_with_term(bytes: &[u8], name: &[u8], ids: &mut [u32]) -> Counted
+    ensures { λ r. ⌜ Docs-answered (now (bytes .entry)) (now (name .entry)) (now (ids .entry)) r (now (ids .exit)) ⌝ }
+{
+    let list = match decode_term(bytes, name) {
+        Decoding::List(list) => list,
+        Decoding::Absent => {
+            return Counted::Count(0);
+        }
+        Decoding::Refused(x) => {
+            return Counted::Refused(x);
+        }
+    };
+    let n = long(list.df);
+    if ids.len() < n {
+        return Counted::Refused(Refusal {
+            kind: NO_ROOM,
+            which: 1,
+            index: n as u64,
+        });
+    }
+    fill_docs(bytes, list.start, list.df, ids);
+    Counted::Count(n)
+}
+
+// The positions from a cursor on, stored from a place on; the place past them.
+fn fill_positions(bytes: &[u8], from: Positions, out: &mut [u32], at: usize) -> usize
+    requires { ⌜ at + length (positions-from (now bytes) from) ≤ length (now out) ⌝ }
+    ensures { λ r. ⌜ Stored (positions-from (now (bytes .entry)) from) at (now (out .entry)) r (now (out .exit)) ⌝ }
+{
+    let mut c = from;
+    let mut i = at;
+    while 0 < c.left {
+        let pos = c.pos;
+        out[i] = pos.0;
+        c = c.advance(bytes);
+        i += 1;
+    }
+    i
+}
+
+// The postings of a list: ids and counts side by side, and all positions, at the fronts of three buffers.
+fn fill_postings(
+    bytes: &[u8],
+    at: usize,
+    df: u32,
+    ids: &mut [u32],
+    counts: &mut [u32],
+    positions: &mut [u32],
+)
+    requires { ⌜ (length (held-postings df none (drop at (now bytes))) ≤ length (now ids)) × (length (held-postings df none (drop at (now bytes))) ≤ length (now counts)) × (length (all-positions (held-postings df none (drop at (now bytes)))) ≤ length (now positions)) ⌝ }
+    ensures { λ r. ⌜ Filled-postings (held-postings df none (drop at (now (bytes .entry)))) (now (ids .entry)) (now (counts .entry)) (now (positions .entry)) (now (ids .exit)) (now (counts .exit)) (now (positions .exit)) ⌝ }
+{
+    let mut c = Postings::start(bytes, at, df);
+    let mut i: usize = 0;
+    let mut next: usize = 0;
+    while 0 < c.left {
+        let doc = c.doc;
+        ids[i] = doc.0;
+        counts[i] = c.count;
+        next = fill_positions(bytes, Positions::start(bytes, c), positions, next);
+        c = c.advance(bytes);
+        i += 1;
+    }
+}
+
+// All postings of a term: how many postings and positions; ids, position counts and positions in three buffers.
+pub fn term_postings(
+    bytes: &[u8],
+    name: &[u8],
+    ids: &mut [u32],
+    counts: &mut [u32],
+    positions: &mut [u32],
+) -> Listed
+    ensures { λ r. ⌜ Postings-answered (now (bytes .entry)) (now (name .entry)) (now (ids .entry)) (now (counts .entry)) (now (positions .entry)) r (now (ids .exit)) (now (counts .exit)) (now (positions .exit)) ⌝ }
+{
+    let list = match decode_term(bytes, name) {
+        Decoding::List(list) => list,
+        Decoding::Absent => {
+            return Listed::Totals(Totals {
+                postings: 0,
+                positions: 0,
+            });
+        }
+        Decoding::Refused(x) => {
+            return Listed::Refused(x);
+        }
+    };
+    let n = long(list.df);
+    let total = list.positions;
+    if ids.len() < n {
+        return Listed::Refused(Refusal {
+            kind: NO_ROOM,
+            which: 1,
+            index: n as u64,
+        });
+    }
+    if counts.len() < n {
+        return Listed::Refused(Refusal {
+            kind: NO_ROOM,
+            which: 2,
+            index: n as u64,
+        });
+    }
+    if positions.len() < total {
+        return Listed::Refused(Refusal {
+            kind: NO_ROOM,
+            which: 3,
+            index: total as u64,
+        });
+    }
+    fill_postings(bytes, list.start, list.df, ids, counts, positions);
+    Listed::Totals(Totals {
+        postings: n,
+        positions: total,
+    })
+}
+
+// The positions of a term in one document, rising; none where the term or the document is unknown. The whole list is decoded first.
+pub fn positions(bytes: &[u8], name: &[u8], id: DocId, out: &mut [u32]) -> Counted
+    ensures { λ r. ⌜ Positions-answered (now (bytes .entry)) (now (name .entry)) (id .0) (now (out .entry)) r (now (out .exit)) ⌝ }
+{
+    let list = match decode_term(bytes, name) {
+        Decoding::List(list) => list,
+        Decoding::Absent => {
+            return Counted::Count(0);
+        }
+        Decoding::Refused(x) => {
+            return Counted::Refused(x);
+        }
+    };
+    let first = Postings::start(bytes, list.start, list.df);
+    let here = first.seek(bytes, id.0 as u64);
+    if here.left == 0 {
+        return Counted::Count(0);
+    }
+    let found = here.doc;
+    if found.0 != id.0 {
+        return Counted::Count(0);
+    }
+    let n = long(here.count);
+    if out.len() < n {
+        return Counted::Refused(Refusal {
+            kind: NO_ROOM,
+            which: 1,
+            index: n as u64,
+        });
+    }
+    fill_positions(bytes, Positions::start(bytes, here), out, 0);
+    Counted::Count(n)
+}
