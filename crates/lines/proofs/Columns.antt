@@ -21,7 +21,7 @@ unfoldable pub front : (columns left : ℕ) → List ℕ
 front zero left = []
 front (suc i) left = front i (left / 10) ++ digit-of left ∷ []
 
-pub front-length : (i left : ℕ) → length (front i left) ≡ i
+front-length : (i left : ℕ) → length (front i left) ≡ i
 unfolding front
 front-length zero left = refl
 front-length (suc i) left = let ih = front-length i (left / 10) in omega (arith, length-append (front i (left / 10)) (digit-of left ∷ []))

@@ -10,7 +10,7 @@ use lib.Seq.{sets, sets-eq, set-comm, length-sets}
 use Rattle.lines.specs.Stores.{Stored}
 
 module _ {A : Type 0} where
-  pub sets-append : (l : List A) (i : ℕ) (xs ys : List A) → sets l i (xs ++ ys) ≡ sets (sets l i xs) (i + length xs) ys
+  sets-append : (l : List A) (i : ℕ) (xs ys : List A) → sets l i (xs ++ ys) ≡ sets (sets l i xs) (i + length xs) ys
   sets-append l i [] ys = ap (λ (k : ℕ). sets l k ys) (sym (add-zero i))
   sets-append l i (x ∷ xs) ys =
       let e : suc i + length xs ≡ i + suc (length xs) = omega arith in

@@ -29,7 +29,8 @@ enum-known-x c = search needs
 list-refusal-requires-2 : tie.Need-list-refusal-requires-2
 list-refusal-requires-2 c κs =
     let start = c .before .before .before .before .before .before .before in
-    refused-small _ (c .before .before .before .before .open-layout .ensures) (c .before .before .x .given .1) (each-below _ (λ i. omega (arith, start .shared-slice-known .given i)))
+    refused-small _ (c .before .before .before .before .open-layout .ensures) (c .before .before .x .given .1)
+    (each-below _ (λ i. omega (arith, start .shared-slice-known .given i)))
 
 same-length-2 : tie.Need-same-length-2
 same-length-2 c = search needs

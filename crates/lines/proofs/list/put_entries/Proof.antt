@@ -57,9 +57,11 @@ same-length c = c .before .loop .inv .2
 returns : tie.Need-returns Inv-loop μ-loop
 returns c =
     let l = c .before .loop in
-    let a = c .before .before .before .before .before .args in
+    let start = c .before .before .before .before in
+    let a = start .before .args in
+    let b = each-below (now (a .dir)) (λ i. omega (arith, start .shared-slice-known .given i)) in
     record {
-      size = entry-lines-length (now (a .dir)) (now (a .names)) (each-below (now (a .dir)) (λ i. omega (arith, c .before .before .before .before .shared-slice-known .given i))) (a .terms) 0;
+      size = entry-lines-length (now (a .dir)) (now (a .names)) b (a .terms) 0;
       past = omega arith;
       left = rw (entry-lines-end (now (a .dir)) (now (a .names)) (a .terms) (l .i) (omega arith)) at (l .inv .3);
     }
