@@ -9,19 +9,19 @@ use mathlib.Core.Option.{none}
 use borrow.Author.Tests.{le-leb, lt-leb}
 use Rattle.codec.specs.Utf8.{utf8}
 use Rattle.segment.specs.declared.refusal.Refusal.{Refusal}
-use Rattle.segment.specs.declared.header.Layout.{Layout}
+use Rattle.opening.specs.declared.header.Layout.{Layout}
 use Rattle.segment.specs.declared.metadata.Checked.the-variants.{Passed, Refused}
-use Rattle.segment.specs.declared.opening.Opening.the-variants as opening
+use Rattle.opening.specs.declared.open_segment.Opening.the-variants as opening
 use Rattle.segment.specs.declared.lists.Tally.{Tally}
 use Rattle.segment.specs.declared.lists.Tally.the-variants as tally
 use Rattle.segment.specs.Refusals.{too-large, invalid-utf8}
 use Rattle.segment.specs.Results.{ok, refuse}
 use Rattle.segment.specs.Postings.{decode}
 use Rattle.segment.specs.Opening.{open-segment}
-use Rattle.segment.specs.Layouts.{cut}
+use Rattle.opening.specs.Layouts.{cut}
 use Rattle.segment.specs.Held.{held-documents}
 use Rattle.segment.specs.Walks.{checked, tallied}
-use Rattle.segment.specs.Opened.{Opens}
+use Rattle.opening.specs.Opened.{Opens}
 use Rattle.segment.proofs.Accepted.{passed-ok, refused-is}
 use Rattle.reading.specs.declared.term.TermList.{TermList}
 use Rattle.reading.specs.declared.term.TermFound.the-variants as found

@@ -2,19 +2,13 @@
 -- Assumes nothing.
 use mathlib.Core.Path.{_≡_, refl, sym, ap, ap₂, _∙_}
 use mathlib.Core.List.{List, [], _∷_, _++_}
-use Prim.Native.Nat.{ℕ, suc, _+_, _≤_, _<_}
-use native.Mathlib.Nat.{add-zero}
+use Prim.Native.Nat.{ℕ, _+_, _≤_, _<_}
 use native.Mathlib.Omega.{arith}
-use lib.ListN.{length, drop, set, length-append}
-use lib.Seq.{sets, sets-eq, length-sets}
+use lib.ListN.{length, set, length-append}
+use lib.Seq.{sets, length-sets}
+use Rattle.codec.proofs.Sets.{sets-append, sets-front}
 use Rattle.reading.specs.Answers.{fronted}
 use Rattle.calls.specs.Filled.{Stored}
-
-sets-append : (l : List ℕ) (i : ℕ) (xs ys : List ℕ) → sets l i (xs ++ ys) ≡ sets (sets l i xs) (i + length xs) ys
-sets-append l i [] ys = ap (λ (k : ℕ). sets l k ys) (sym (add-zero i))
-sets-append l i (x ∷ xs) ys =
-    let e : suc i + length xs ≡ i + suc (length xs) = omega arith in
-    sets-append (set l i x) (suc i) xs ys ∙ ap (λ (k : ℕ). sets (sets (set l i x) (suc i) xs) k ys) e
 
 -- of values that are being stored: once those that are left are stored too, all are, and there is room for that
 pub record To-store (all : List ℕ) (at : ℕ) (entry left : List ℕ) (next : ℕ) (out : List ℕ) : Type 0 where
@@ -67,6 +61,4 @@ module _ {all entry left out : List ℕ} {at next : ℕ} (t : To-store all at en
 
 -- from the buffer's front on
 pub at-front : {all entry out : List ℕ} {next : ℕ} → length all ≤ length entry → Stored all 0 entry next out → out ≡ fronted all entry
-at-front {all} {entry} h s =
-    let e : 0 + length all ≡ length all = omega arith in
-    s .left ∙ sets-eq all entry 0 (omega arith) ∙ ap (λ (k : ℕ). all ++ drop k entry) e
+at-front {all} {entry} h s = s .left ∙ sets-front entry all h

@@ -7,17 +7,17 @@ use Prim.Native.Nat.{ℕ, _≤_, _<_}
 use lib.ListN.{length}
 use borrow.Author.Tests.{le-leb, lt-leb}
 use Rattle.segment.specs.declared.refusal.Refusal.{Refusal}
-use Rattle.segment.specs.declared.header.Layout.{Layout}
+use Rattle.opening.specs.declared.header.Layout.{Layout}
 use Rattle.segment.specs.declared.metadata.Documents.{Documents}
-use Rattle.segment.specs.declared.opening.Opening.the-variants as opening
+use Rattle.opening.specs.declared.open_segment.Opening.the-variants as opening
 use Rattle.segment.specs.Refusals.{no-room}
 use Rattle.segment.specs.Results.{ok, refuse}
 use Rattle.segment.specs.Records.{Document}
 use Rattle.segment.specs.Metadata.{length-of}
 use Rattle.segment.specs.Opening.{open-segment}
-use Rattle.segment.specs.Layouts.{cut}
+use Rattle.opening.specs.Layouts.{cut}
 use Rattle.segment.specs.Held.{held-documents, documents-from, Sought-document}
-use Rattle.segment.specs.Opened.{Opens}
+use Rattle.opening.specs.Opened.{Opens}
 use Rattle.segment.proofs.Documents-held.{sought-found, sought-other}
 use Rattle.reading.specs.declared.replies.Counted.the-variants as counted
 use Rattle.calls.specs.declared.replies.Length.the-variants as len

@@ -1,11 +1,11 @@
 // The calls on documents: no list is decoded.
 use crate::replies::Length;
+use opening::open_segment::Opening;
+use opening::open_segment::open_layout;
 use reading::replies::Counted;
 use segment::fixed::long;
 use segment::ids::DocId;
 use segment::metadata::Documents;
-use segment::opening::Opening;
-use segment::opening::open_layout;
 use segment::refusal::NO_ROOM;
 use segment::refusal::Refusal;
 ghost use mathlib.Core.Path.{_≡_};

@@ -3,6 +3,8 @@ use crate::replies::Frequency;
 use crate::replies::Listed;
 use crate::replies::Totals;
 use codec::utf8::is_utf8;
+use opening::open_segment::Opening;
+use opening::open_segment::open_layout;
 use reading::positions::Positions;
 use reading::postings::Postings;
 use reading::replies::Counted;
@@ -13,8 +15,6 @@ use segment::fixed::long;
 use segment::ids::DocId;
 use segment::lists::Tally;
 use segment::metadata::Checked;
-use segment::opening::Opening;
-use segment::opening::open_layout;
 use segment::refusal::INVALID_UTF8;
 use segment::refusal::LIMIT;
 use segment::refusal::NO_ROOM;
@@ -129,7 +129,7 @@ fn fill_docs(bytes: &[u8], at: usize, df: u32, ids: &mut [u32])
     }
 }
 
-// The ids of the documents in which a term stands, rising; none for an unknown term.
+// How many documents a term stands in, and their ids, rising; none for an unknown term.
 pub fn docs_with_term(bytes: &[u8], name: &[u8], ids: &mut [u32]) -> Counted
     ensures { λ r. ⌜ Docs-answered (now (bytes .entry)) (now (name .entry)) (now (ids .entry)) r (now (ids .exit)) ⌝ }
 {
@@ -247,7 +247,7 @@ pub fn term_postings(
     })
 }
 
-// The positions of a term in one document, rising; none where the term or the document is unknown. The whole list is decoded first.
+// How many positions a term has in one document, and which, rising; none where the term or the document is unknown. The whole list is decoded first.
 pub fn positions(bytes: &[u8], name: &[u8], id: DocId, out: &mut [u32]) -> Counted
     ensures { λ r. ⌜ Positions-answered (now (bytes .entry)) (now (name .entry)) (id .0) (now (out .entry)) r (now (out .exit)) ⌝ }
 {

@@ -51,22 +51,22 @@ twice = refl
 
 divides-by : (n : ℕ) (p : List Bool) → length p ≡ n + 32 → claims.Is-remainder p (divided n p)
 unfolding divided plus claims.times-G
-divides-by zero p h = record { quotient = []; size = h; sum = sym (plus-zeros 32 p (omega arith)) }
+divides-by zero p h = record { quotient = []; size = h; adds-up = sym (plus-zeros 32 p (omega arith)) }
 divides-by (suc n) [] h = absurd (omega arith)
 divides-by (suc n) (false ∷ p) h =
     let i = divides-by n p (omega arith) in
-    record { quotient = false ∷ i .quotient; size = i .size; sum = ap (λ l. false ∷ l) (i .sum) }
+    record { quotient = false ∷ i .quotient; size = i .size; adds-up = ap (λ l. false ∷ l) (i .adds-up) }
 divides-by (suc n) (true ∷ p) h =
     let i = divides-by n (plus generator p) (omega (arith, plus-length generator p (omega arith))) in
     record {
       quotient = true ∷ i .quotient;
       size = i .size;
-      sum =
+      adds-up =
           ap (λ l. true ∷ l)
           (sym (plus-zeros 32 p (omega arith))
           ∙ ap (λ l. plus l p) (sym twice)
           ∙ plus-assoc generator generator p
-          ∙ ap (plus generator) (i .sum)
+          ∙ ap (plus generator) (i .adds-up)
           ∙ sym (plus-assoc generator (claims.times-G (i .quotient)) _));
     }
 
@@ -204,12 +204,12 @@ complemented : (m : List Bool)
 unfolding Divides-on number
 complemented m =
     let p = m ++ replicate 32 false in
-    let sum = plus (replicate 32 true) p in
+    let added = plus (replicate 32 true) p in
     let long : length p ≡ length m + 32 = length-append m (replicate 32 false) in
-    let size : length sum ≡ length m + 32 = plus-length (replicate 32 true) p (omega arith) ∙ long in
+    let size : length added ≡ length m + 32 = plus-length (replicate 32 true) p (omega arith) ∙ long in
     ap (λ x. bitXor x 0xFFFFFFFF) (sym (by-division m (replicate 32 true)))
-    ∙ sym (number-not (divided (length m) sum) (divides-by (length m) sum size .size))
-    ∙ ap (λ n. number (map not (divided n sum))) (omega arith)
+    ∙ sym (number-not (divided (length m) added) (divides-by (length m) added size .size))
+    ∙ ap (λ n. number (map not (divided n added))) (omega arith)
     ∙ ap (λ l. number (map not (remainder l))) (sym (complement-plus 32 p (omega arith)))
 
 pub register-is-crc : (l : List ℕ) → Bytes l → bitXor (along 0xFFFFFFFF l) 0xFFFFFFFF ≡ crc32Of l

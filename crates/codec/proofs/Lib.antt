@@ -1,5 +1,6 @@
 -- Laws that belong to no one function, lowest first.
 pub mod Loops
+pub mod Sets
 pub mod Bytes
 pub mod Numbers
 pub mod Shortest

@@ -22,7 +22,7 @@ module _ (s : List ℕ) (at : ℕ) where
   unfolding uleb128
   more h k = rw (drop-step s at 0 h, le-ltb (getD s at 0) 128 k)
 
-  pub last : at < length s → getD s at 0 < 128 → uleb128 (drop at s) ≡ some (claims.leb (getD s at 0) 1)
+  pub last : at < length s → getD s at 0 < 128 → uleb128 (drop at s) ≡ some (claims.leb-number (getD s at 0) 1)
   unfolding uleb128
   last h k = rw (drop-step s at 0 h, lt-ltb (getD s at 0) 128 k)
 
@@ -35,22 +35,22 @@ module _ (at : ℕ) (l : Option Leb) where
   pub refused : l ≡ none → Refused ≡ decoded at (limited l)
   refused e = rw e
 
-  pub large : (v k : ℕ) → l ≡ some (claims.leb v k) → 2 ^ 32 ≤ v → Refused ≡ decoded at (limited l)
+  pub large : (v k : ℕ) → l ≡ some (claims.leb-number v k) → 2 ^ 32 ≤ v → Refused ≡ decoded at (limited l)
   large v k e h = rw (e, le-ltb v (2 ^ 32) h) (either (leb k 5))
     where
-      either : (b : Bool) → Refused ≡ decoded at (cond (b && false) (some (claims.leb v k)) none)
+      either : (b : Bool) → Refused ≡ decoded at (cond (b && false) (some (claims.leb-number v k)) none)
       either true = refl
       either false = refl
 
-  pub long : (v k : ℕ) → l ≡ some (claims.leb v k) → 5 < k → Refused ≡ decoded at (limited l)
+  pub long : (v k : ℕ) → l ≡ some (claims.leb-number v k) → 5 < k → Refused ≡ decoded at (limited l)
   long v k e h = rw (e, lt-leb k 5 h)
 
-  pub value : (v k x p : ℕ) → l ≡ some (claims.leb v k) → k ≤ 5 → v < 2 ^ 32 → x ≡ v → p ≡ at + k
+  pub value : (v k x p : ℕ) → l ≡ some (claims.leb-number v k) → k ≤ 5 → v < 2 ^ 32 → x ≡ v → p ≡ at + k
       → Value (record { value = x; next = record { at = p } }) ≡ decoded at (limited l)
   value v k x p e f h a b = rw (e, le-leb k 5 f, lt-ltb v (2 ^ 32) h, a, b)
 
 -- a number takes a byte at least
-below-size : (b : ℕ) (o : Option Leb) (t : Bool) (r : Leb) → cond t (some (claims.leb b 1)) (below b o) ≡ some r → 1 ≤ r .size
+below-size : (b : ℕ) (o : Option Leb) (t : Bool) (r : Leb) → cond t (some (claims.leb-number b 1)) (below b o) ≡ some r → 1 ≤ r .size
 below-size b o true r e = let f : 1 ≡ r .size = cc in omega arith
 below-size b none false r e = let z : _≡_ {A = ℕ} 0 1 = cc in omega arith
 below-size b (some q) false r e = let f : suc (q .size) ≡ r .size = cc in omega arith

@@ -36,7 +36,7 @@ unfolding encoded chunks
 more-bytes x h k = rw (le-ltb x 128 h) (ap (λ l. (x % 128 + 128) ∷ l) (fewer 3 (x / 128) (omega arith)))
 
 -- read back, whatever follows
-back : (n x : ℕ) (rest : List ℕ) → x < 128 ^ suc n → uleb128 (chunks n x ++ rest) ≡ some (claims.leb x (length (chunks n x)))
+back : (n x : ℕ) (rest : List ℕ) → x < 128 ^ suc n → uleb128 (chunks n x ++ rest) ≡ some (claims.leb-number x (length (chunks n x)))
 unfolding chunks uleb128
 back zero x rest h = rw (lt-ltb x 128 h)
 back (suc n) x rest h =
@@ -48,7 +48,7 @@ back (suc n) x rest h =
       le-ltb (x % 128 + 128) 128 (omega arith),
       back n (x / 128) rest (omega (arith, rw (pow-suc 128 (suc n)) at h)),
     )
-    (ap {B = Option Leb} (λ (v : ℕ). some (claims.leb v (suc (length (chunks n (x / 128)))))) (omega arith)))
+    (ap {B = Option Leb} (λ (v : ℕ). some (claims.leb-number v (suc (length (chunks n (x / 128)))))) (omega arith)))
     (lt-or-ge x 128)
 
 -- one byte at least, as many as there are chunks at most, each of eight bits
@@ -93,8 +93,8 @@ size-of (some r) = r .size
 
 -- a form of k bytes says less than 128 ^ k, so it has at least as many bytes as the chunks
 found-size : (b : ℕ) (o : Option Leb) (t : Bool) (v k n : ℕ) → ltb b 128 ≡ t → 128 ^ n ≤ v → 1 ≤ k
-    → cond t (some (claims.leb b 1)) (below b o) ≡ some (claims.leb v k)
-    → ((w j m : ℕ) → n ≡ suc m → v / 128 ≡ w → o ≡ some (claims.leb w j) → k ≡ suc j → m < j) → n < k
+    → cond t (some (claims.leb-number b 1)) (below b o) ≡ some (claims.leb-number v k)
+    → ((w j m : ℕ) → n ≡ suc m → v / 128 ≡ w → o ≡ some (claims.leb-number w j) → k ≡ suc j → m < j) → n < k
 found-size b o true v k zero e h p f ih = p
 found-size b o true v k (suc n) e h p f ih =
     let f1 : b ≡ v = ap value-of f in
@@ -110,11 +110,11 @@ found-size b (some q) false v k (suc n) e h p f ih =
     let f2 : suc (q .size) ≡ k = ap size-of f in
     omega (arith, ih (q .value) (q .size) n refl (omega arith) refl (sym f2))
 
-more-than : (l : List ℕ) (v k n : ℕ) → 128 ^ n ≤ v → uleb128 l ≡ some (claims.leb v k) → n < k
+more-than : (l : List ℕ) (v k n : ℕ) → 128 ^ n ≤ v → uleb128 l ≡ some (claims.leb-number v k) → n < k
 unfolding uleb128
 more-than [] v k n h e = let z : _≡_ {A = ℕ} 0 1 = cc in absurd (omega arith)
 more-than (b ∷ l) v k n h e =
-    found-size b (uleb128 l) (ltb b 128) v k n refl h (size-pos (b ∷ l) (claims.leb v k) e) e
+    found-size b (uleb128 l) (ltb b 128) v k n refl h (size-pos (b ∷ l) (claims.leb-number v k) e) e
     (λ w j m is half o next. more-than l w j m (omega (arith, pow-suc 128 m, ap (λ x. 128 ^ x) is)) o)
 
 -- how many chunks there are says how large the number is
@@ -132,11 +132,11 @@ filled (suc n) x =
     next (inl is) y = (0, ap suc is, omega (arith, pow-suc 128 0))
     next (inr (j, is, big)) y = (suc j, ap suc is, omega (arith, pow-suc 128 (suc j)))
 
-least-chunks : (n x : ℕ) (l : List ℕ) (k : ℕ) → x < 128 ^ suc n → uleb128 l ≡ some (claims.leb x k) → length (chunks n x) ≤ k
+least-chunks : (n x : ℕ) (l : List ℕ) (k : ℕ) → x < 128 ^ suc n → uleb128 l ≡ some (claims.leb-number x k) → length (chunks n x) ≤ k
 least-chunks n x l k h e = go (length (chunks n x)) (filled n x)
   where
     go : (m : ℕ) → ((m ≡ 1) ⊎ ((j : ℕ) × (m ≡ suc (suc j)) × (128 ^ suc j ≤ x))) → m ≤ k
-    go m (inl is) = omega (arith, size-pos l (claims.leb x k) e)
+    go m (inl is) = omega (arith, size-pos l (claims.leb-number x k) e)
     go m (inr (j, is, big)) = omega (arith, more-than l x k (suc j) big e)
 
 -- ---- the claims
@@ -152,12 +152,12 @@ written-shortest x h = record {
 pub read-back : claims.Read-back
 read-back x rest h = rw (written-shortest x h .back rest, le-leb (length (encoded x)) 5 (encoded-size x), lt-ltb x (2 ^ 32) h)
 
-accepted : (o : Option Leb) (v k : ℕ) → (limited o ≡ some (claims.leb v k)) ↔ ((o ≡ some (claims.leb v k)) × (k ≤ 5) × (v < 2 ^ 32))
+accepted : (o : Option Leb) (v k : ℕ) → (limited o ≡ some (claims.leb-number v k)) ↔ ((o ≡ some (claims.leb-number v k)) × (k ≤ 5) × (v < 2 ^ 32))
 accepted none v k = (λ e. let z : _≡_ {A = ℕ} 0 1 = cc in absurd (omega arith), λ p. p .0)
 accepted (some r) v k = (to (leb (r .size) 5 && ltb (r .value) (2 ^ 32)) refl, from)
   where
-    to : (t : Bool) → leb (r .size) 5 && ltb (r .value) (2 ^ 32) ≡ t → cond t (some r) none ≡ some (claims.leb v k)
-        → (some r ≡ some (claims.leb v k)) × (k ≤ 5) × (v < 2 ^ 32)
+    to : (t : Bool) → leb (r .size) 5 && ltb (r .value) (2 ^ 32) ≡ t → cond t (some r) none ≡ some (claims.leb-number v k)
+        → (some r ≡ some (claims.leb-number v k)) × (k ≤ 5) × (v < 2 ^ 32)
     to true e f =
         let is1 : r .value ≡ v = ap value-of f in
         let is2 : r .size ≡ k = ap size-of f in (
@@ -167,7 +167,7 @@ accepted (some r) v k = (to (leb (r .size) 5 && ltb (r .value) (2 ^ 32)) refl, f
         )
     to false e f = let z : _≡_ {A = ℕ} 0 1 = cc in absurd (omega arith)
 
-    from : (some r ≡ some (claims.leb v k)) × (k ≤ 5) × (v < 2 ^ 32) → limited (some r) ≡ some (claims.leb v k)
+    from : (some r ≡ some (claims.leb-number v k)) × (k ≤ 5) × (v < 2 ^ 32) → limited (some r) ≡ some (claims.leb-number v k)
     from (f, g, h) = ap limited f ∙ rw (le-leb k 5 g, lt-ltb v (2 ^ 32) h)
 
 pub accepted-exactly : claims.Accepted-exactly

@@ -10,7 +10,7 @@ use lib.Dec.{leb}
 use lib.ListN.{length, drop, getD}
 use lib.Seq.{drop-at, drop-append-seam}
 use borrow.Author.Tests.{lt-ltb, le-ltb, le-leb, leb-true}
-use Rattle.codec.specs.Utf8.{Scalar, Scalars, octets, text, Is-utf8, Range, in-range, range, tail}
+use Rattle.codec.specs.Utf8.{Scalar, Scalars, octets, text, Is-utf8, Range, in-range, range, utf8-tail}
 use Rattle.codec.specs.Utf8.{sequences, starts, first-of, char-length, goes-on, characters, utf8}
 use Rattle.codec.specs.Claims as claims
 use Rattle.codec.proofs.Loops.{lt-or-ge, and-left, and-right, true-false}
@@ -83,10 +83,10 @@ row1 = record { reads = reads; writes = λ v rest h k. rw (octets1 v k) (omega a
     reads [] m = absurd m
     reads (a ∷ rest) m = char (a ∷ []) a rest (inl (omega arith)) (octets1 a (m .1))
 
-row2 : Row (range 0xC2 0xDF ∷ tail ∷ []) 0x80 0x7FF
+row2 : Row (range 0xC2 0xDF ∷ utf8-tail ∷ []) 0x80 0x7FF
 row2 = record { reads = reads; writes = λ v rest h k. rw (octets2 v h k) (omega arith) }
   where
-    reads : (l : List ℕ) → Begins (range 0xC2 0xDF ∷ tail ∷ []) l → Char l 2
+    reads : (l : List ℕ) → Begins (range 0xC2 0xDF ∷ utf8-tail ∷ []) l → Char l 2
     reads [] m = absurd m
     reads (a ∷ []) m = absurd (m .2)
     reads (a ∷ b ∷ rest) m =
@@ -100,14 +100,14 @@ value3 a b c = a * 4096 + b * 64 + c - 0xE2080
 
 record Three (r s : Range) (low high : ℕ) : Type 0 where
   bounds : (0xE0 ≤ r .low) × (0x80 ≤ s .low) × (s .high ≤ 0xBF) × (0x800 ≤ low) × (high ≤ 0xFFFF)
-  reads : (a b c : ℕ) → Begins (r ∷ s ∷ tail ∷ []) (a ∷ b ∷ c ∷ []) → (low ≤ value3 a b c) × (value3 a b c ≤ high)
-  writes : (v : ℕ) → low ≤ v → v ≤ high → Begins (r ∷ s ∷ tail ∷ []) ((0xE0 + v / 4096) ∷ (0x80 + v / 64 % 64) ∷ (0x80 + v % 64) ∷ [])
+  reads : (a b c : ℕ) → Begins (r ∷ s ∷ utf8-tail ∷ []) (a ∷ b ∷ c ∷ []) → (low ≤ value3 a b c) × (value3 a b c ≤ high)
+  writes : (v : ℕ) → low ≤ v → v ≤ high → Begins (r ∷ s ∷ utf8-tail ∷ []) ((0xE0 + v / 4096) ∷ (0x80 + v / 64 % 64) ∷ (0x80 + v % 64) ∷ [])
 
-row3 : {r s : Range} {low high : ℕ} → Scalar-from low high → Three r s low high → Row (r ∷ s ∷ tail ∷ []) low high
+row3 : {r s : Range} {low high : ℕ} → Scalar-from low high → Three r s low high → Row (r ∷ s ∷ utf8-tail ∷ []) low high
 row3 {r} {s} {low} {high} scalars t =
     record { reads = reads; writes = λ v rest h k. rw (octets3 v (omega arith) (omega arith)) (t .writes v h k) }
   where
-    reads : (l : List ℕ) → Begins (r ∷ s ∷ tail ∷ []) l → Char l 3
+    reads : (l : List ℕ) → Begins (r ∷ s ∷ utf8-tail ∷ []) l → Char l 3
     reads [] m = absurd m
     reads (a ∷ []) m = absurd (m .2)
     reads (a ∷ b ∷ []) m = absurd (m .2 .2)
@@ -123,15 +123,15 @@ value4 a b c d = a * 262144 + b * 4096 + c * 64 + d - 0x3C82080
 
 record Four (r s : Range) (low high : ℕ) : Type 0 where
   bounds : (0xF0 ≤ r .low) × (0x80 ≤ s .low) × (s .high ≤ 0xBF) × (0x10000 ≤ low)
-  reads : (a b c d : ℕ) → Begins (r ∷ s ∷ tail ∷ tail ∷ []) (a ∷ b ∷ c ∷ d ∷ []) → (low ≤ value4 a b c d) × (value4 a b c d ≤ high)
+  reads : (a b c d : ℕ) → Begins (r ∷ s ∷ utf8-tail ∷ utf8-tail ∷ []) (a ∷ b ∷ c ∷ d ∷ []) → (low ≤ value4 a b c d) × (value4 a b c d ≤ high)
   writes : (v : ℕ) → low ≤ v → v ≤ high
-      → Begins (r ∷ s ∷ tail ∷ tail ∷ []) ((0xF0 + v / 262144) ∷ (0x80 + v / 4096 % 64) ∷ (0x80 + v / 64 % 64) ∷ (0x80 + v % 64) ∷ [])
+      → Begins (r ∷ s ∷ utf8-tail ∷ utf8-tail ∷ []) ((0xF0 + v / 262144) ∷ (0x80 + v / 4096 % 64) ∷ (0x80 + v / 64 % 64) ∷ (0x80 + v % 64) ∷ [])
 
-row4 : {r s : Range} {low high : ℕ} → Scalar-from low high → Four r s low high → Row (r ∷ s ∷ tail ∷ tail ∷ []) low high
+row4 : {r s : Range} {low high : ℕ} → Scalar-from low high → Four r s low high → Row (r ∷ s ∷ utf8-tail ∷ utf8-tail ∷ []) low high
 row4 {r} {s} {low} {high} scalars t =
     record { reads = reads; writes = λ v rest h k. rw (octets4 v (omega arith)) (t .writes v h k) }
   where
-    reads : (l : List ℕ) → Begins (r ∷ s ∷ tail ∷ tail ∷ []) l → Char l 4
+    reads : (l : List ℕ) → Begins (r ∷ s ∷ utf8-tail ∷ utf8-tail ∷ []) l → Char l 4
     reads [] m = absurd m
     reads (a ∷ []) m = absurd (m .2)
     reads (a ∷ b ∷ []) m = absurd (m .2 .2)

@@ -10,26 +10,26 @@ use Rattle.codec.specs.Leb128.{Leb, uleb128, stored, encoded}
 use Rattle.codec.specs.Crc32.{plus, generator, remainder}
 use Rattle.codec.specs.Utf8.{Is-utf8, utf8}
 
-abbrev pub leb : ℕ → ℕ → Leb
-leb v k = record { value = v; size = k }
+abbrev pub leb-number : ℕ → ℕ → Leb
+leb-number v k = record { value = v; size = k }
 
 -- A stored number is accepted exactly when DWARF's decoder finds one of at most five bytes that says less than 2^32
 abbrev pub Accepted-exactly : Type 0
 Accepted-exactly =
-    (bytes : List ℕ) (v k : ℕ) → (stored bytes ≡ some (leb v k)) ↔ ((uleb128 bytes ≡ some (leb v k)) × (k ≤ 5) × (v < 2 ^ 32))
+    (bytes : List ℕ) (v k : ℕ) → (stored bytes ≡ some (leb-number v k)) ↔ ((uleb128 bytes ≡ some (leb-number v k)) × (k ≤ 5) × (v < 2 ^ 32))
 
 -- What is written is read back by DWARF's decoder whatever follows, in bytes of eight bits, and no form of the number is shorter
 pub record Shortest-form (x : ℕ) : Type 0 where
-  pub back : (rest : List ℕ) → uleb128 (encoded x ++ rest) ≡ some (leb x (length (encoded x)))
+  pub back : (rest : List ℕ) → uleb128 (encoded x ++ rest) ≡ some (leb-number x (length (encoded x)))
   pub eight-bits : (i : ℕ) → getD (encoded x) i 0 < 256
-  pub least : (bytes : List ℕ) (k : ℕ) → uleb128 bytes ≡ some (leb x k) → length (encoded x) ≤ k
+  pub least : (bytes : List ℕ) (k : ℕ) → uleb128 bytes ≡ some (leb-number x k) → length (encoded x) ≤ k
 
 abbrev pub Written-shortest : Type 0
 Written-shortest = (x : ℕ) → x < 2 ^ 32 → Shortest-form x
 
 -- What is written is a stored number, whatever follows
 abbrev pub Read-back : Type 0
-Read-back = (x : ℕ) (rest : List ℕ) → x < 2 ^ 32 → stored (encoded x ++ rest) ≡ some (leb x (length (encoded x)))
+Read-back = (x : ℕ) (rest : List ℕ) → x < 2 ^ 32 → stored (encoded x ++ rest) ≡ some (leb-number x (length (encoded x)))
 
 -- The product of a polynomial and G = x^32 + generator, as many coefficients as q has and 32 more
 unfoldable pub times-G : List Bool → List Bool
@@ -41,7 +41,7 @@ times-G (true ∷ q) = plus (true ∷ generator) (false ∷ times-G q)
 pub record Is-remainder (p r : List Bool) : Type 0 where
   pub quotient : List Bool
   pub size : length r ≡ 32
-  pub sum : p ≡ plus (times-G quotient) (replicate (length quotient) false ++ r)
+  pub adds-up : p ≡ plus (times-G quotient) (replicate (length quotient) false ++ r)
 
 abbrev pub Divides : Type 0
 Divides = (p : List Bool) → 32 ≤ length p → Is-remainder p (remainder p)

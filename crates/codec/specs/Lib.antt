@@ -1,8 +1,9 @@
--- The definitions that the contracts of this crate cite; each file is written from the public document that it names.
+-- What a reader must believe: each of these is written from the public document that it names.
 pub mod Leb128
-pub mod Reading
 pub mod Crc32
-pub mod Register
 pub mod Utf8
+-- What is claimed of them:
 pub mod Claims
-pub mod Marked
+-- What the number reader and the checksum register stand for:
+pub mod Reading
+pub mod Register

@@ -48,21 +48,21 @@ in-range r b = leb (r .low) b && leb b (r .high)
 abbrev pub range : ℕ → ℕ → Range
 range a b = record { low = a; high = b }
 
-abbrev pub tail : Range
-tail = range 0x80 0xBF
+abbrev pub utf8-tail : Range
+utf8-tail = range 0x80 0xBF
 
 -- UTF8-1; UTF8-2; UTF8-3, four rows; UTF8-4, three rows
 unfoldable pub sequences : List (List Range)
 sequences =
     (range 0x00 0x7F ∷ [])
-    ∷ (range 0xC2 0xDF ∷ tail ∷ [])
-    ∷ (range 0xE0 0xE0 ∷ range 0xA0 0xBF ∷ tail ∷ [])
-    ∷ (range 0xE1 0xEC ∷ tail ∷ tail ∷ [])
-    ∷ (range 0xED 0xED ∷ range 0x80 0x9F ∷ tail ∷ [])
-    ∷ (range 0xEE 0xEF ∷ tail ∷ tail ∷ [])
-    ∷ (range 0xF0 0xF0 ∷ range 0x90 0xBF ∷ tail ∷ tail ∷ [])
-    ∷ (range 0xF1 0xF3 ∷ tail ∷ tail ∷ tail ∷ [])
-    ∷ (range 0xF4 0xF4 ∷ range 0x80 0x8F ∷ tail ∷ tail ∷ [])
+    ∷ (range 0xC2 0xDF ∷ utf8-tail ∷ [])
+    ∷ (range 0xE0 0xE0 ∷ range 0xA0 0xBF ∷ utf8-tail ∷ [])
+    ∷ (range 0xE1 0xEC ∷ utf8-tail ∷ utf8-tail ∷ [])
+    ∷ (range 0xED 0xED ∷ range 0x80 0x9F ∷ utf8-tail ∷ [])
+    ∷ (range 0xEE 0xEF ∷ utf8-tail ∷ utf8-tail ∷ [])
+    ∷ (range 0xF0 0xF0 ∷ range 0x90 0xBF ∷ utf8-tail ∷ utf8-tail ∷ [])
+    ∷ (range 0xF1 0xF3 ∷ utf8-tail ∷ utf8-tail ∷ utf8-tail ∷ [])
+    ∷ (range 0xF4 0xF4 ∷ range 0x80 0x8F ∷ utf8-tail ∷ utf8-tail ∷ [])
     ∷ []
 
 -- The bytes start with an octet of each range, in order

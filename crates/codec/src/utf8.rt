@@ -2,7 +2,7 @@
 ghost use mathlib.Core.Path.{_≡_};
 ghost use mathlib.Core.List.{[], _∷_};
 ghost use lib.ListN.{drop};
-ghost use Rattle.codec.specs.Utf8.{utf8, char-length, starts, range, tail};
+ghost use Rattle.codec.specs.Utf8.{utf8, char-length, starts, range, utf8-tail};
 
 // An octet of a range stands at a place.
 fn one(s: &[u8], at: usize, low: u8, high: u8) -> bool
@@ -30,7 +30,7 @@ fn two(s: &[u8], at: usize, low: u8, high: u8, low1: u8, high1: u8) -> bool
 
 // An octet of each of two ranges, and a tail.
 fn three(s: &[u8], at: usize, low: u8, high: u8, low1: u8, high1: u8) -> bool
-    ensures { λ r. ⌜ r ≡ starts (range low high ∷ range low1 high1 ∷ tail ∷ []) (drop at (now (s .entry))) ⌝ }
+    ensures { λ r. ⌜ r ≡ starts (range low high ∷ range low1 high1 ∷ utf8-tail ∷ []) (drop at (now (s .entry))) ⌝ }
 {
     if one(s, at, low, high) {
         return two(s, at + 1, low1, high1, 0x80, 0xBF);
@@ -40,7 +40,7 @@ fn three(s: &[u8], at: usize, low: u8, high: u8, low1: u8, high1: u8) -> bool
 
 // An octet of each of two ranges, and two tails.
 fn four(s: &[u8], at: usize, low: u8, high: u8, low1: u8, high1: u8) -> bool
-    ensures { λ r. ⌜ r ≡ starts (range low high ∷ range low1 high1 ∷ tail ∷ tail ∷ []) (drop at (now (s .entry))) ⌝ }
+    ensures { λ r. ⌜ r ≡ starts (range low high ∷ range low1 high1 ∷ utf8-tail ∷ utf8-tail ∷ []) (drop at (now (s .entry))) ⌝ }
 {
     if one(s, at, low, high) {
         return three(s, at + 1, low1, high1, 0x80, 0xBF);

@@ -5,7 +5,7 @@ use mathlib.Core.List.{List}
 use mathlib.Core.Logic.{_↔_}
 use Prim.Native.Nat.{ℕ}
 use Rattle.segment.specs.Results.{ok}
-use Rattle.writer.specs.Given.{Lists}
+use Rattle.checking.specs.Given.{Lists}
 use Rattle.writer.specs.Writing.{write}
 use Rattle.writer.specs.Acceptance as writer
 use Rattle.writer.proofs.Accepts.{accepts-exactly}
@@ -13,24 +13,10 @@ use Rattle.joint.specs.Demand.{No-refusal}
 use Rattle.joint.proofs.Sizes.{segment-length}
 
 module _ (l : Lists) (room : ℕ) where
-  pub refusals-agree : writer.No-refusal l room ↔ No-refusal l room
+  refusals-agree : writer.No-refusal l room ↔ No-refusal l room
   refusals-agree = (
-    λ n. record {
-      small = n .small;
-      shape = n .shape;
-      documents-rise = n .documents-rise;
-      names-rise = n .names-rise;
-      each = n .each;
-      room-enough = rw segment-length at (n .room-enough);
-    },
-    λ n. record {
-      small = n .small;
-      shape = n .shape;
-      documents-rise = n .documents-rise;
-      names-rise = n .names-rise;
-      each = n .each;
-      room-enough = rw segment-length (n .room-enough);
-    },
+    λ n. record { lists = n .lists; room-enough = rw segment-length at (n .room-enough) },
+    λ n. record { lists = n .lists; room-enough = rw segment-length (n .room-enough) },
   )
 
   pub accepts : ((bytes : List ℕ) × (write l room ≡ ok bytes)) ↔ No-refusal l room

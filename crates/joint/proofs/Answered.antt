@@ -12,18 +12,18 @@ use Rattle.codec.specs.Utf8.{Is-utf8}
 use Rattle.segment.specs.Refusals.{no-room}
 use Rattle.segment.specs.Results.{Result, ok, refuse, _>>=_, check}
 use Rattle.segment.specs.Texts.{names}
-use Rattle.writer.specs.Given.{Lists, given}
+use Rattle.checking.specs.Given.{Lists, given}
+use Rattle.checking.specs.Acceptance.{Lists-fine}
 use Rattle.writer.specs.Bytes.{segment-bytes}
 use Rattle.writer.specs.Back.{Typed}
 use Rattle.writer.proofs.PostingsBack.{list-back}
 use Rattle.writer.proofs.ReadsBack.{opened, numbers-fit, few-positions}
-use Rattle.search.specs.Members.{_∈_}
+use Rattle.segment.specs.Elements.{_∈_}
 use Rattle.search.specs.Questions.{Rule, Unordered, search, search-text, search-two}
-use Rattle.search.specs.Claims.{Well-formed}
-use Rattle.search.proofs.Well-formed.{names-count, names-pass, passes-exactly}
+use Rattle.search.specs.Claims.{Well-formed, Enough}
+use Rattle.search.proofs.Well-formed.{names-pass, passes-exactly}
+use Rattle.segment.proofs.Shapes.{names-count}
 use Rattle.search.proofs.Answering.{awake-is}
-use Rattle.joint.specs.Demand.{No-refusal, Enough}
-use Rattle.joint.proofs.Accepting.{refusals-agree}
 use Rattle.joint.proofs.Lookups-back.{Decodes, answers-back}
 use Rattle.joint.proofs.Meeting.{ids-of}
 
@@ -37,18 +37,17 @@ roomed-fits ids places h = rw (le-leb (length ids) places h)
 pub roomed-full : (ids : List ℕ) (places : ℕ) → places < length ids → roomed ids places ≡ refuse (no-room 1 (length ids))
 roomed-full ids places h = rw (lt-leb (length ids) places h)
 
-module _ (l : Lists) (room : ℕ) (typed : Typed l) (accepted : No-refusal l room) where
+module _ (l : Lists) (typed : Typed l) (fine : Lists-fine l) where
   decodes : Decodes (given l .documents) (given l .terms)
   decodes t m =
-      let n = refusals-agree l room .1 accepted in
-      list-back (given l .documents) (n .documents-rise) (numbers-fit l room typed n) t (n .each t m) (few-positions l room typed n t m)
+      list-back (given l .documents) (fine .documents-rise) (numbers-fit l typed fine) t (fine .each t m) (few-positions l typed fine t m)
 
   pub search-answers : (rule : Rule) (ns : List (List ℕ)) → Enough rule (length ns) → (places : ℕ)
       → search (segment-bytes (given l)) rule ns places ≡ roomed (ids-of l rule ns) places
   unfolding search
   search-answers rule ns enough places =
       rw (
-        opened l room typed (refusals-agree l room .1 accepted),
+        opened l typed fine,
         answers-back (given l .documents) (given l .terms) decodes rule ns (awake-is rule (length ns) .1 enough),
       )
 

@@ -1,8 +1,8 @@
 -- From what the writer and the search answer to the claim about a call that writes and then asks.
 -- Assumes nothing.
-use mathlib.Core.Path.{_≡_, refl, sym, ap, subst, _∙_}
+use mathlib.Core.Path.{_≡_, refl, sym, ap, _∙_}
 use mathlib.Core.Bool.{Bool, true, false}
-use mathlib.Core.List.{List, [], _∷_, _++_}
+use mathlib.Core.List.{List, [], _∷_}
 use Prim.Native.Nat.{ℕ, _≤_}
 use native.Mathlib.Omega.{arith}
 use lib.ListN.{length, take, drop, length-append}
@@ -11,18 +11,18 @@ use Rattle.segment.specs.declared.refusal.Refusal.{Refusal}
 use Rattle.segment.specs.Results.{Result, ok, refuse}
 use Rattle.segment.specs.Texts.{names}
 use Rattle.reading.specs.declared.replies.Counted.{Counted}
-use Rattle.reading.specs.Answers.{fronted}
+use Rattle.reading.specs.declared.replies.Counted.the-variants as counted
+use Rattle.reading.specs.Answers.{fronted, filled, count-of}
 use Rattle.writer.specs.declared.write.Written.{Written}
 use Rattle.writer.specs.declared.write.Written.the-variants as written
-use Rattle.writer.specs.Given.{Lists}
+use Rattle.checking.specs.Given.{Lists}
 use Rattle.writer.specs.Writing.{write}
 use Rattle.writer.specs.Back.{Typed}
 use Rattle.writer.specs.Stores.{Wrote, length-of-written, slice-after}
 use Rattle.search.specs.declared.document.Ask.{Ask}
-use Rattle.search.specs.Questions.{Rule, Unordered}
+use Rattle.search.specs.Questions.{Rule, Unordered, search-text, search-two}
 use Rattle.search.specs.Standing.{rule-of}
 use Rattle.search.specs.Asked.{near-ask, Text-answered, Two-answered}
-use Rattle.joint.specs.declared.ask.Asked.{Asked}
 use Rattle.joint.specs.declared.ask.Asked.the-variants as asked
 use Rattle.joint.specs.Demand.{Listed, Demand-3, Proper-text, Proper-two, near-rule}
 use Rattle.joint.proofs.Accepting.{accepts}
@@ -60,9 +60,15 @@ module _ (l : Lists) (out : List ℕ) {w : Written} {out′ : List ℕ} (wrote :
           λ fine. let b = accepts l (length out) .1 fine in let is = sym r ∙ b .1 in let z : _≡_ {A = ℕ} 0 1 = cc in absurd (omega arith),
         );
         refuses = λ x is. (wrote .left ∙ ap (λ r. slice-after r out) r, refl);
+        unasked = λ n x is. let z : _≡_ {A = ℕ} 0 1 = cc in absurd (omega arith);
         gives-back = λ n c is. let z : _≡_ {A = ℕ} 0 1 = cc in absurd (omega arith);
         lists = λ n c is. let z : _≡_ {A = ℕ} 0 1 = cc in absurd (omega arith);
       }
+
+-- a search that refused left its buffer
+left-alone : (r : Result (List ℕ)) (found : List ℕ) {x : Refusal} → count-of r ≡ counted.Refused x → filled (λ xs. xs) r found ≡ found
+left-alone (ok ids) found e = let z : _≡_ {A = ℕ} 0 1 = cc in absurd (omega arith)
+left-alone (refuse y) found e = refl
 
 -- ---- written and asked
 
@@ -76,10 +82,12 @@ module _ (l : Lists) (out : List ℕ) (typed : Typed l) {n : ℕ} {out′ : List
   bytes-fit = omega (arith, w .long, ap length (w .left), length-append (w .bytes) (drop (length (w .bytes)) out))
 
   answered-claim : (rule : Rule) (ns : List (List ℕ)) (Proper : Type 0) (found : List ℕ) (c : Counted) (found′ : List ℕ)
-      → (Proper → Listed l rule ns found c found′) → Demand-3 l out rule ns Proper found (asked.Answer n c) out′ found′
-  answered-claim rule ns Proper found c found′ lists = record {
+      → ((x : Refusal) → c ≡ counted.Refused x → found′ ≡ found) → (Proper → Listed l rule ns found c found′)
+      → Demand-3 l out rule ns Proper found (asked.Answer n c) out′ found′
+  answered-claim rule ns Proper found c found′ alone lists = record {
     accepts = (λ a. accepts l (length out) .0 (w .bytes, w .answer), λ fine. (n, c, refl));
     refuses = λ x is. let z : _≡_ {A = ℕ} 0 1 = cc in absurd (omega arith);
+    unasked = λ m x is. let e : c ≡ counted.Refused x = cc in alone x e;
     gives-back = λ m d is.
         let same : n ≡ m = cc in
         rw (sym same, w .long, w .left) (written-back l out (w .bytes) typed (w .answer));
@@ -91,6 +99,7 @@ module _ (l : Lists) (out : List ℕ) (typed : Typed l) {n : ℕ} {out′ : List
       → Demand-3 l out rule (names 0 ends text) (Proper-text rule text ends) found (asked.Answer n c) out′ found′
   text-claim a rule is text ends found {c} {found′} t =
       answered-claim rule (names 0 ends text) (Proper-text rule text ends) found c found′
+      (λ x e. t .left ∙ left-alone (search-text (take n out′) (rule-of a) text ends (length found)) found (sym (t .reply) ∙ e))
       (λ proper.
       rw (t .reply, t .left, asked-bytes, is)
       (listed l (length out) (w .bytes) typed (w .answer) rule text ends (proper .well-formed) (proper .enough) found))
@@ -100,6 +109,7 @@ module _ (l : Lists) (out : List ℕ) (typed : Typed l) {n : ℕ} {out′ : List
       → Demand-3 l out (Unordered window) (a ∷ b ∷ []) (Proper-two window a b) found (asked.Answer n c) out′ found′
   two-claim window a b found {c} {found′} t =
       answered-claim (Unordered window) (a ∷ b ∷ []) (Proper-two window a b) found c found′
+      (λ x e. t .left ∙ left-alone (search-two (take n out′) window a b (length found)) found (sym (t .reply) ∙ e))
       (λ proper.
       rw (t .reply, t .left, asked-bytes)
       (listed-two l (length out) (w .bytes) typed (w .answer) window a b

@@ -6,5 +6,6 @@ pub mod Once
 pub mod Lookups-back
 pub mod Meeting
 pub mod Answered
+pub mod Counted
 pub mod Demanded
 pub mod Claimed

@@ -13,9 +13,9 @@ use Rattle.segment.specs.Names.{same}
 use Rattle.segment.specs.Directory.{entry-of}
 use Rattle.segment.specs.Postings.{decode}
 use Rattle.reading.specs.Lookups.{found, postings-of}
-use Rattle.writer.proofs.Inversions.{ok-same}
+use Rattle.segment.proofs.Binds.{ok-same}
 use Rattle.writer.proofs.PostingsBack.{entry-for}
-use Rattle.search.specs.Members.{_∈_}
+use Rattle.segment.specs.Elements.{_∈_}
 use Rattle.search.specs.Questions.{Rule, idle, under, different, decode-names, answer, answers}
 use Rattle.search.proofs.Decoding.{term, asked-under}
 use Rattle.search.proofs.Answering.{answer-same, answers-found}

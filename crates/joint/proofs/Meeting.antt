@@ -5,16 +5,16 @@ use mathlib.Core.Bool.{true}
 use mathlib.Core.List.{List}
 use mathlib.Core.Logic.{_↔_}
 use Prim.Native.Nat.{ℕ, _<_}
-use native.Mathlib.Omega.{arith}
 use lib.ListN.{length}
-use Rattle.writer.specs.Given.{Lists, given}
-use Rattle.search.specs.Questions.{Rule, Phrase, Ordered, Unordered, meets, Meets, answer}
+use Rattle.checking.specs.Given.{Lists, given}
+use Rattle.checking.specs.Acceptance.{Lists-fine}
+use Rattle.search.specs.Questions.{Rule, meets, Meets, answer}
 use Rattle.search.specs.Questions as search
 use Rattle.search.proofs.Rising.{rising-unique}
 use Rattle.search.proofs.Rules-hold.{rules-agree}
 use Rattle.search.proofs.Answering.{answer-are, answer-rises}
 use Rattle.joint.specs.Own.{own}
-use Rattle.joint.specs.Demand.{No-refusal, Enough, Those-that-meet}
+use Rattle.joint.specs.Demand.{Those-that-meet}
 use Rattle.joint.proofs.Once.{own-is}
 
 -- two lists of those that meet are one
@@ -22,29 +22,24 @@ pub those-unique : (l : Lists) (rule : Rule) (ns : List (List ℕ)) (xs ys : Lis
     → Those-that-meet l rule ns xs → Those-that-meet l rule ns ys → xs ≡ ys
 those-unique l rule ns xs ys a b =
     rising-unique xs ys (a .rising) (b .rising)
-    (λ d m. let (k, w) = a .only d m in b .all d k w)
-    (λ d m. let (k, w) = b .only d m in a .all d k w)
-
-pub some-named : (rule : Rule) (k : ℕ) → Enough rule k → 0 < k
-some-named Phrase k h = h
-some-named (Ordered w) k h = omega arith
-some-named (Unordered w) k h = omega arith
+    (λ d m. let (k, w) = a .only d m in b .every d k w)
+    (λ d m. let (k, w) = b .only d m in a .every d k w)
 
 -- the answer by the definitions
 abbrev pub ids-of : Lists → Rule → List (List ℕ) → List ℕ
 ids-of l rule ns = answer rule ns (given l .documents) (given l .terms)
 
-module _ (l : Lists) (room : ℕ) (accepted : No-refusal l room) (rule : Rule) (ns : List (List ℕ)) (some : 0 < length ns) where
+module _ (l : Lists) (fine : Lists-fine l) (rule : Rule) (ns : List (List ℕ)) (some : 0 < length ns) where
   -- the test by the search's own positions is the rule in words by what was handed in
   met-is : (d : ℕ) → (meets rule (search.own (given l .terms) d) ns ≡ true) ↔ Meets rule (own l d) ns
   met-is d =
       subst (λ (f : List ℕ → List ℕ). (meets rule (search.own (given l .terms) d) ns ≡ true) ↔ Meets rule f ns)
-      (sym (fun-ext (own-is l room accepted d)))
+      (sym (fun-ext (own-is l fine d)))
       (rules-agree rule (search.own (given l .terms) d) ns some)
 
   pub those-are : Those-that-meet l rule ns (ids-of l rule ns)
   those-are = record {
     only = λ d m. let (k, t) = answer-are rule ns (given l .documents) (given l .terms) d .0 m in (k, met-is d .0 t);
-    all = λ d m w. answer-are rule ns (given l .documents) (given l .terms) d .1 (m, met-is d .1 w);
-    rising = answer-rises rule ns (given l .documents) (given l .terms) (accepted .documents-rise);
+    every = λ d m w. answer-are rule ns (given l .documents) (given l .terms) d .1 (m, met-is d .1 w);
+    rising = answer-rises rule ns (given l .documents) (given l .terms) (fine .documents-rise);
   }

@@ -13,14 +13,13 @@ use Rattle.segment.specs.Records.{Posting, Term}
 use Rattle.segment.specs.Names.{same, precedes}
 use Rattle.segment.proofs.Strings.{same-is, apart, precedes-is, precedes-transitive, precedes-apart}
 use Rattle.reading.specs.Lookups.{positions-of}
-use Rattle.writer.specs.Given.{Lists, given}
-use Rattle.writer.specs.Acceptance.{Names-rising}
-use Rattle.search.specs.Members.{_∈_}
+use Rattle.checking.specs.Given.{Lists, given}
+use Rattle.checking.specs.Acceptance.{Names-rising, Lists-fine}
+use Rattle.segment.specs.Elements.{_∈_, Rising}
 use Rattle.search.specs.Questions as search
-use Rattle.search.proofs.Rising.{Rising, rising-tail, rising-above}
+use Rattle.segment.proofs.Elements.{rising-tail, rising-above}
 use Rattle.search.proofs.Answering.{docs}
 use Rattle.joint.specs.Own.{own-of, own-under, own}
-use Rattle.joint.specs.Demand.{No-refusal}
 
 none-of : (ps : List Posting) (d : ℕ) → ((x : ℕ) → x ∈ docs ps → d < x) → own-of ps d ≡ []
 unfolding own-of
@@ -76,5 +75,5 @@ under-one (t ∷ ts) d n r each =
         rw (none-under ts d n (others (same-is (t .name) n .0 e)), append-nil) (of-one (t .postings) d (each t (inl refl)))
     step false e later = later
 
-pub own-is : (l : Lists) (room : ℕ) → No-refusal l room → (d : ℕ) (n : List ℕ) → own l d n ≡ search.own (given l .terms) d n
-own-is l room h d n = under-one (given l .terms) d n (h .names-rise) (λ t m. h .each t m .rising)
+pub own-is : (l : Lists) → Lists-fine l → (d : ℕ) (n : List ℕ) → own l d n ≡ search.own (given l .terms) d n
+own-is l h d n = under-one (given l .terms) d n (h .names-rise) (λ t m. h .each t m .rising)

@@ -10,10 +10,12 @@ use borrow.Author.Tests.{eqb-true, eq-eqb}
 use Rattle.segment.specs.Records.{Posting, Term}
 use Rattle.segment.specs.Names.{same}
 use Rattle.segment.proofs.Strings.{same-is}
-use Rattle.writer.specs.Given.{Lists, given}
-use Rattle.search.specs.Members.{_∈_, kept, joined}
-use Rattle.search.proofs.Membership.{joined-gives, joined-from, map-gives, map-from, kept-gives, kept-from}
-use Rattle.joint.specs.Own.{own-of, own-under, own, Stands}
+use Rattle.checking.specs.Given.{Lists, given}
+use Rattle.search.specs.Members.{kept, joined}
+use Rattle.segment.specs.Elements.{_∈_}
+use Rattle.search.proofs.Membership.{joined-gives, joined-from, map-gives, kept-gives, kept-from}
+use Rattle.segment.proofs.Elements.{map-from}
+use Rattle.joint.specs.Own.{own-of, own-under, own, Stands, Own-exactly}
 
 -- the lists of those that pass a test, one after the other
 module _ {A : Type 0} (test : A → Bool) (list : A → List ℕ) where
@@ -56,7 +58,7 @@ unfolding own-under kept joined
 under-is [] d n = refl
 under-is (t ∷ ts) d n = rw (under-is ts d n, gathered-more (of-name n) (λ t. own-of (t .postings) d) t ts)
 
-pub own-stands : (l : Lists) (d : ℕ) (n : List ℕ) (p : ℕ) → (p ∈ own l d n) ↔ Stands l d n p
+pub own-stands : Own-exactly
 own-stands l d n p = (
   λ m.
       let (t, i, e, k) = gathered-gives (of-name n) (λ t. own-of (t .postings) d) (given l .terms) p (rw under-is at m) in

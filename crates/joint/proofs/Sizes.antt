@@ -3,14 +3,18 @@
 use mathlib.Core.Path.{_≡_, refl}
 use mathlib.Core.List.{List, [], _∷_}
 use mathlib.Core.Option.{Option, none, some}
-use Prim.Native.Nat.{ℕ, _+_}
+use mathlib.Core.Bool.{Bool, true, false, cond}
+use Prim.Native.Nat.{ℕ, zero, suc, _+_, _*_, _/_, _%_, _≤_}
+use lib.Dec.{ltb}
+use Rattle.codec.specs.Leb128.{encoded, chunks}
+use Rattle.codec.proofs.Shortest.{encoded-size}
 use native.Mathlib.Omega.{arith}
 use lib.ListN.{length, length-append}
 use Rattle.segment.specs.Records.{Document, Posting, Term}
-use Rattle.writer.specs.Given.{Lists, given}
+use Rattle.checking.specs.Given.{Lists, given}
 use Rattle.writer.specs.Bytes.{gap, metadata-bytes, position-bytes, posting-bytes, postings-bytes, directory-bytes, name-bytes, lists-bytes, segment-bytes}
 use Rattle.writer.proofs.DirectoryBack.{directory-length}
-use Rattle.joint.specs.Own.{gap-from, documents-size, positions-size, postings-size, terms-size, segment-size}
+use Rattle.joint.specs.Own.{gap-from, number-size, documents-size, positions-size, postings-size, terms-size, segment-size, Posting-takes}
 
 gap-same : (previous : Option ℕ) (v : ℕ) → gap previous v ≡ gap-from previous v
 gap-same none v = refl
@@ -51,3 +55,35 @@ pub segment-length : (l : Lists) → length (segment-bytes (given l)) ≡ segmen
 unfolding segment-bytes
 segment-length l =
     simp length-append (omega (arith, terms-length (given l .terms) 0 0, documents-length none (given l .documents)))
+
+-- ---- how many bytes a posting takes
+
+some-bytes : (n x : ℕ) → 1 ≤ length (chunks n x)
+unfolding chunks
+some-bytes zero x = omega arith
+some-bytes (suc n) x = either (ltb x 128)
+  where
+    either : (b : Bool) → 1 ≤ length (cond b (x ∷ []) ((x % 128 + 128) ∷ chunks n (x / 128)))
+    either true = omega arith
+    either false = omega arith
+
+one-to-five : (x : ℕ) → (1 ≤ number-size x) × (number-size x ≤ 5)
+unfolding encoded
+one-to-five x = (some-bytes 4 x, encoded-size x)
+
+positions-take : (previous : Option ℕ) (ps : List ℕ)
+    → (length ps ≤ positions-size previous ps) × (positions-size previous ps ≤ 5 * length ps)
+unfolding positions-size
+positions-take previous [] = (omega arith, omega arith)
+positions-take previous (p ∷ ps) =
+    let n = one-to-five (gap-from previous p) in
+    let more = positions-take (some p) ps in
+    (omega (arith, n, more), omega (arith, n, more))
+
+pub posting-takes : Posting-takes
+unfolding postings-size
+posting-takes previous p =
+    let d = one-to-five (gap-from previous (p .doc)) in
+    let k = one-to-five (length (p .positions)) in
+    let ps = positions-take none (p .positions) in
+    (omega (arith, d, k, ps), omega (arith, d, k, ps))

@@ -9,52 +9,45 @@ use lib.ListN.{length, take, drop}
 use Rattle.codec.specs.Utf8.{Is-utf8}
 use Rattle.segment.specs.declared.refusal.Refusal.{Refusal}
 use Rattle.segment.specs.Results.{ok}
-use Rattle.segment.specs.Records.{Term}
+use Rattle.segment.specs.Opening.{open-segment}
 use Rattle.reading.specs.declared.replies.Counted.{Counted}
 use Rattle.reading.specs.declared.replies.Counted.the-variants as counted
-use Rattle.writer.specs.Given.{Lists, given, laid-flat}
-use Rattle.writer.specs.Acceptance.{Rising, Names-rising, Term-fine, Small, Shape}
-use Rattle.writer.specs.Back.{decode-segment, all-position-counts}
-use Rattle.search.specs.Members.{_∈_}
-use Rattle.search.specs.Questions.{Rule, Phrase, Ordered, Unordered, Meets}
-use Rattle.search.specs.Claims.{Well-formed}
+use Rattle.checking.specs.Given.{Lists, given, laid-flat}
+use Rattle.checking.specs.Acceptance.{Lists-fine}
+use Rattle.writer.specs.Back.{decode-segment}
+use Rattle.segment.specs.Elements.{_∈_, Rising}
+use Rattle.search.specs.Questions.{Rule, Ordered, Unordered, Meets}
+use Rattle.search.specs.Claims.{Well-formed, Enough}
 use Rattle.joint.specs.declared.ask.Asked.{Asked}
 use Rattle.joint.specs.declared.ask.Asked.the-variants as asked
 use Rattle.joint.specs.Own.{own, segment-size}
+use Rattle.joint.specs.Stored.{position-counts-of}
 
--- document 01 names no refusal for what is handed in
+-- document 01 names no refusal for what is handed in: none for the lists (crate checking, specs/Acceptance.antt), and there is room
 pub record No-refusal (l : Lists) (room : ℕ) : Type 0 where
-  pub small : Small l
-  pub shape : Shape l
-  pub documents-rise : Rising (map (λ d. d .id) (given l .documents))
-  pub names-rise : Names-rising (map (λ t. t .name) (given l .terms))
-  pub each : (t : Term) → t ∈ given l .terms → Term-fine (given l .documents) t
+  pub lists : Lists-fine l
   pub room-enough : segment-size l ≤ room
 
--- n bytes were written: they open and decode to what was handed in, in its order; laid flat that is the eight lists; the position counts
--- add up to the steps handed in; and the slice's other places are as they were
+-- n bytes were written, as many as document 01's format takes: they open and decode to what was handed in, in its order; laid flat that is
+-- the eight lists; the position counts that stand in the bytes add up to the number of positions (steps) handed in; and the slice's other
+-- places are as they were
 pub record Given-back (l : Lists) (out : List ℕ) (n : ℕ) (out′ : List ℕ) : Type 0 where
+  pub size : n ≡ segment-size l
   pub fits : n ≤ length out
   pub back : decode-segment (take n out′) ≡ ok (given l)
   pub flat : laid-flat (given l) ≡ l
-  pub counted : all-position-counts (given l .terms) ≡ length (l .positions)
+  pub counted : position-counts-of (open-segment (take n out′)) ≡ length (l .positions)
   pub rest : drop n out′ ≡ drop n out
-
--- a phrase of 1 name or more, a near question of 2 or more with a window of 1 or more (Well-formed has at most 128)
-abbrev pub Enough : Rule → (sounds : ℕ) → Type 0
-Enough Phrase n = 1 ≤ n
-Enough (Ordered w) n = (2 ≤ n) × (1 ≤ w)
-Enough (Unordered w) n = (2 ≤ n) × (1 ≤ w)
 
 -- the ids of the documents handed in whose own positions meet the question, ascending and without repeats
 pub record Those-that-meet (l : Lists) (rule : Rule) (ns : List (List ℕ)) (ids : List ℕ) : Type 0 where
   pub only : (d : ℕ) → d ∈ ids → (d ∈ map (λ x. x .id) (given l .documents)) × Meets rule (own l d) ns
-  pub all : (d : ℕ) → d ∈ map (λ x. x .id) (given l .documents) → Meets rule (own l d) ns → d ∈ ids
+  pub every : (d : ℕ) → d ∈ map (λ x. x .id) (given l .documents) → Meets rule (own l d) ns → d ∈ ids
   pub rising : Rising ids
 
 -- the search does not refuse: it answers their number, and they fill that many first places of the buffer
 pub record Listed (l : Lists) (rule : Rule) (ns : List (List ℕ)) (found : List ℕ) (r : Counted) (found′ : List ℕ) : Type 0 where
-  pub some : (ids : List ℕ) × Those-that-meet l rule ns ids
+  pub there-are : (ids : List ℕ) × Those-that-meet l rule ns ids
   pub answer : (ids : List ℕ) → Those-that-meet l rule ns ids → length ids ≤ length found
       → (r ≡ counted.Count (length ids)) × (found′ ≡ ids ++ drop (length ids) found)
 
@@ -69,6 +62,8 @@ pub record Demand-3 (l : Lists) (out : List ℕ) (rule : Rule) (ns : List (List 
   -- the writer accepts exactly when document 01 names no refusal, and a refusal changes no lent place
   pub accepts : Answered-by r ↔ No-refusal l (length out)
   pub refuses : (x : Refusal) → r ≡ asked.NotWritten x → (out′ ≡ out) × (found′ ≡ found)
+  -- a search that refuses, as it may a question that demand 3 does not name, leaves its buffer
+  pub unasked : (n : ℕ) (x : Refusal) → r ≡ asked.Answer n (counted.Refused x) → found′ ≡ found
   -- the bytes give back what was handed in
   pub gives-back : (n : ℕ) (c : Counted) → r ≡ asked.Answer n c → Given-back l out n out′
   -- the search does not refuse, and lists exactly the documents whose own positions meet the question

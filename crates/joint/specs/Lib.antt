@@ -1,5 +1,4 @@
 -- Demand 3: one claim across writer and search. In words, over what is handed in.
 pub mod Own
+pub mod Stored
 pub mod Demand
-pub mod Marked
-pub mod Uneven

@@ -1,16 +1,17 @@
 -- What is handed in, as the words of demand 3 go by it (document 01, "The search").
-use Prim.Native.Nat.{ℕ, _+_, _*_, _-_}
+use Prim.Native.Nat.{ℕ, _+_, _*_, _-_, _≤_}
 use mathlib.Core.Path.{_≡_}
-use mathlib.Core.Bool.{cond, _&&_}
-use mathlib.Core.List.{List, [], _∷_, _++_, map}
+use mathlib.Core.Bool.{cond}
+use mathlib.Core.List.{List, [], _∷_, _++_}
 use mathlib.Core.Option.{Option, none, some}
+use mathlib.Core.Logic.{_↔_}
 use lib.Dec.{eqb}
 use lib.ListN.{length}
 use Rattle.codec.specs.Leb128.{encoded}
 use Rattle.segment.specs.Records.{Document, Posting, Term}
 use Rattle.segment.specs.Names.{same}
-use Rattle.writer.specs.Given.{Lists, Given, given}
-use Rattle.search.specs.Members.{_∈_}
+use Rattle.checking.specs.Given.{Lists, given}
+use Rattle.segment.specs.Elements.{_∈_}
 
 -- a document's own positions of a name: the positions in the writer's lists under that name and that document's id, in their order
 unfoldable pub own-of : List Posting → (doc : ℕ) → List ℕ
@@ -34,6 +35,10 @@ pub record Stands (l : Lists) (doc : ℕ) (name : List ℕ) (p : ℕ) : Type 0 w
   pub of : posting .doc ≡ doc
   pub on : p ∈ posting .positions
 
+-- the two agree; proved in proofs/Owned.antt
+abbrev pub Own-exactly : Type 0
+Own-exactly = (l : Lists) (doc : ℕ) (name : List ℕ) (p : ℕ) → (p ∈ own l doc name) ↔ Stands l doc name p
+
 -- ---- how long a segment of what is handed in is, from document 01's format: a stored number takes its shortest form
 
 abbrev pub gap-from : Option ℕ → ℕ → ℕ
@@ -56,6 +61,12 @@ postings-size previous [] = 0
 postings-size previous (p ∷ ps) =
     number-size (gap-from previous (p .doc)) + number-size (length (p .positions)) + positions-size none (p .positions)
     + postings-size (some (p .doc)) ps
+
+-- document 01: k positions with their id and count take k + 2 to 5k + 10 bytes; proved in proofs/Sizes.antt
+abbrev pub Posting-takes : Type 0
+Posting-takes =
+    (previous : Option ℕ) (p : Posting)
+    → (length (p .positions) + 2 ≤ postings-size previous (p ∷ [])) × (postings-size previous (p ∷ []) ≤ 5 * length (p .positions) + 10)
 
 -- per term 32 bytes of directory, its name, its list
 unfoldable pub terms-size : List Term → ℕ

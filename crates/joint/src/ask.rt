@@ -8,7 +8,7 @@ use writer::write::Written;
 use writer::write::write_positional_segment;
 ghost use mathlib.Core.List.{[], _∷_};
 ghost use Rattle.segment.specs.Texts.{names};
-ghost use Rattle.writer.specs.Flat.{lists};
+ghost use Rattle.checking.specs.Flat.{lists};
 ghost use Rattle.search.specs.Questions.{Phrase, Unordered};
 ghost use Rattle.joint.specs.Demand.{Demand-3, Proper-text, Proper-two, near-rule};
 
@@ -18,7 +18,7 @@ pub enum Asked {
     Answer(usize, Counted),
 }
 
-// A phrase.
+// Writes, then asks for a phrase: the writer's refusal, or the length written and the search's answer.
 pub fn write_then_phrase(
     ids: &[u32],
     lengths: &[u32],
@@ -54,7 +54,7 @@ pub fn write_then_phrase(
     }
 }
 
-// Names near one another, in the order named or in any.
+// Writes, then asks for names near one another, in the order named or in any; answers as above.
 pub fn write_then_near(
     ids: &[u32],
     lengths: &[u32],
@@ -99,7 +99,7 @@ pub fn write_then_near(
     }
 }
 
-// Two names near one another, in any order.
+// Writes, then asks for two names near one another, in any order; answers as above.
 pub fn write_then_near_two(
     ids: &[u32],
     lengths: &[u32],

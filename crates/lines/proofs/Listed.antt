@@ -8,25 +8,26 @@ use native.Mathlib.Nat.{zero-add}
 use native.Mathlib.Omega.{arith}
 use lib.ListN.{length, drop, length-append}
 use borrow.Author.Tests.{le-leb, lt-leb}
+use Rattle.codec.proofs.Sets.{sets-front}
 use Rattle.codec.proofs.Bytes.{Bytes}
 use Rattle.segment.specs.declared.refusal.Refusal.{Refusal}
-use Rattle.segment.specs.declared.header.Layout.{Layout}
-use Rattle.segment.specs.declared.opening.Opening.{Opening}
-use Rattle.segment.specs.declared.opening.Opening.the-variants as opening
+use Rattle.opening.specs.declared.header.Layout.{Layout}
+use Rattle.opening.specs.declared.open_segment.Opening.{Opening}
+use Rattle.opening.specs.declared.open_segment.Opening.the-variants as opening
 use Rattle.segment.specs.Refusals.{no-room, too-large}
 use Rattle.segment.specs.Results.{Result, ok, refuse}
 use Rattle.segment.specs.Records.{Segment}
 use Rattle.segment.specs.Opening.{open-segment}
-use Rattle.segment.specs.Layouts.{cut}
+use Rattle.opening.specs.Layouts.{cut}
 use Rattle.segment.specs.Held.{held-documents}
-use Rattle.segment.specs.Opened.{Is-open, Opens}
+use Rattle.opening.specs.Opened.{Is-open, Opens}
 use Rattle.segment.proofs.Documents-held.{held-rise}
 use Rattle.reading.specs.declared.replies.Counted.{Counted}
 use Rattle.reading.specs.declared.replies.Counted.the-variants.{Count, Refused}
 use Rattle.reading.specs.Answers.{count-of, filled}
 use Rattle.lines.specs.Listing.{column, document-lines, entry-lines, count-line, refusal-line, text-of, listable, listing}
 use Rattle.lines.specs.Stores.{Stored, Listed-into, list-into, Text-listed, Listable-as, Segment-listed, entry-lines-at}
-use Rattle.lines.proofs.Sets.{sets-front, stored-append}
+use Rattle.lines.proofs.Sets.{stored-append}
 use Rattle.lines.proofs.Columns.{column-length}
 use Rattle.lines.proofs.Widths.{bytes-between}
 use Rattle.lines.proofs.Indices.{index-small}

@@ -1,21 +1,15 @@
--- Stores of a run of bytes: one behind another, one in front of another, and what is still to be stored while a loop goes on.
+-- Stores of a run of bytes: one in front of another, and what is still to be stored while a loop goes on.
 -- Assumes nothing.
 use mathlib.Core.Path.{_≡_, refl, sym, ap, ap₂, _∙_}
 use mathlib.Core.List.{List, [], _∷_, _++_}
 use Prim.Native.Nat.{ℕ, suc, _+_, _≤_}
-use native.Mathlib.Nat.{add-zero}
 use native.Mathlib.Omega.{arith}
-use lib.ListN.{length, drop, set, length-append}
-use lib.Seq.{sets, sets-eq, set-comm, length-sets}
+use lib.ListN.{length, set, length-append}
+use lib.Seq.{sets, set-comm, length-sets}
+use Rattle.codec.proofs.Sets.{sets-append}
 use Rattle.lines.specs.Stores.{Stored}
 
 module _ {A : Type 0} where
-  sets-append : (l : List A) (i : ℕ) (xs ys : List A) → sets l i (xs ++ ys) ≡ sets (sets l i xs) (i + length xs) ys
-  sets-append l i [] ys = ap (λ (k : ℕ). sets l k ys) (sym (add-zero i))
-  sets-append l i (x ∷ xs) ys =
-      let e : suc i + length xs ≡ i + suc (length xs) = omega arith in
-      sets-append (set l i x) (suc i) xs ys ∙ ap (λ (k : ℕ). sets (sets (set l i x) (suc i) xs) k ys) e
-
   -- one element is stored past the run, before it or after it
   sets-past : (l : List A) (i : ℕ) (xs : List A) (j : ℕ) (y : A) → i + length xs ≤ j → sets (set l j y) i xs ≡ set (sets l i xs) j y
   sets-past l i [] j y h = refl
@@ -25,11 +19,6 @@ module _ {A : Type 0} where
   -- a run whose last element is stored first
   pub sets-last : (l : List A) (i : ℕ) (xs : List A) (y : A) → sets (set l (i + length xs) y) i xs ≡ sets l i (xs ++ y ∷ [])
   sets-last l i xs y = sets-past l i xs (i + length xs) y (omega arith) ∙ sym (sets-append l i xs (y ∷ []))
-
-  pub sets-front : (l xs : List A) → length xs ≤ length l → sets l 0 xs ≡ xs ++ drop (length xs) l
-  sets-front l xs h =
-      let e : 0 + length xs ≡ length xs = omega arith in
-      sets-eq xs l 0 (omega arith) ∙ ap (λ (k : ℕ). xs ++ drop k l) e
 
 pub stored-length : {bytes l o : List ℕ} {w at n : ℕ} → Stored bytes w at l n o → length o ≡ length l
 stored-length {bytes} {l} {at = at} s = ap length (s .left) ∙ length-sets l at bytes

@@ -5,8 +5,7 @@ use Prim.Native.Nat.{ℕ, zero, suc, _-_, _^_, _<_}
 use native.Mathlib.Omega.{arith}
 use lib.ListN.{take, drop}
 use Rattle.codec.proofs.Bytes.{Bytes, none, one}
-use Rattle.segment.specs.Records.{little-endian, field}
-use Rattle.segment.specs.Layouts.{between}
+use Rattle.segment.specs.Records.{little-endian, field, between}
 
 bytes-drop : (n : ℕ) {l : List ℕ} → Bytes l → Bytes (drop n l)
 bytes-drop zero b = b

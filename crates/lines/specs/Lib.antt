@@ -1,3 +1,4 @@
--- The listing of a segment as text.
+-- The listing of a segment as text. What a reader must believe:
 pub mod Listing
+-- The promise (`Listed-into`), and what the code over the lent slice stands for:
 pub mod Stores

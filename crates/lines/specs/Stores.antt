@@ -7,12 +7,12 @@ use lib.Dec.{ltb, leb, eqb}
 use lib.ListN.{length, getD}
 use lib.Seq.{sets}
 use Rattle.segment.specs.declared.refusal.Refusal.{Refusal}
-use Rattle.segment.specs.declared.header.Layout.{Layout}
+use Rattle.opening.specs.declared.header.Layout.{Layout}
 use Rattle.segment.specs.Refusals.{no-room}
 use Rattle.segment.specs.Results.{Result, ok, _>>=_, check}
 use Rattle.segment.specs.Records.{Segment}
-use Rattle.segment.specs.Terms.{entry-at, Entry-inside}
-use Rattle.segment.specs.Opened.{Is-open}
+use Rattle.opening.specs.Terms.{entry-at, Entry-inside}
+use Rattle.opening.specs.Opened.{Is-open}
 use Rattle.reading.specs.declared.replies.Counted.{Counted}
 use Rattle.reading.specs.Answers.{count-of, filled}
 use Rattle.lines.specs.Listing.{shown, listing, entry-line, refusal-line, text-of}

@@ -1,13 +1,13 @@
 // The text of a listing.
 use crate::put::put_name;
 use crate::put::put_number;
+use opening::header::Layout;
+use opening::open_segment::Opening;
+use opening::open_segment::open_layout;
 use reading::replies::Counted;
 use segment::fixed::long;
 use segment::fixed::read_u32_at;
-use segment::header::Layout;
 use segment::metadata::Documents;
-use segment::opening::Opening;
-use segment::opening::open_layout;
 use segment::refusal::NO_ROOM;
 use segment::refusal::Refusal;
 use segment::refusal::TOO_LARGE;
@@ -16,7 +16,7 @@ ghost use mathlib.Core.Option.{none};
 ghost use Prim.Native.Nat.{_+_, _*_, _≤_, _<_};
 ghost use lib.ListN.{length};
 ghost use Rattle.segment.specs.Held.{held-documents};
-ghost use Rattle.segment.specs.Terms.{entry-at, Entry-inside};
+ghost use Rattle.opening.specs.Terms.{entry-at, Entry-inside};
 ghost use Rattle.lines.specs.Listing.{column, document-lines, entry-line};
 ghost use Rattle.lines.specs.Stores.{Stored, Entries-room, entry-lines-at, Refusal-listed, Listable-as, Segment-listed, Listed-into};
 

@@ -12,7 +12,8 @@ use lib.Seq.{getD-set-same, getD-set-other}
 use Rattle.codec.proofs.Loops.{true-false}
 use Rattle.reading.specs.declared.positions.Positions.{Positions}
 use Rattle.reading.specs.Cursors.{positions-from, Sought-position}
-use Rattle.matching.specs.Fits.{_∈_, no-positions, lists, Chain, Chained, Begun}
+use Rattle.matching.specs.Fits.{no-positions, lists, Chain, Chained, Begun}
+use Rattle.segment.specs.Elements.{_∈_}
 use Rattle.matching.proofs.Members.{sought-in, sought-back, from-low, from-first, from-none}
 use Rattle.matching.proofs.Places.{each-set}
 

@@ -14,7 +14,7 @@ use Rattle.reading.specs.Cursors.{positions-from, Sought-position}
 use Rattle.reading.proofs.Seeks.{Ahead}
 use Rattle.reading.proofs.Entering.{positions-ahead}
 use Rattle.reading.proofs.Rising.{Rises, from-rise}
-use Rattle.matching.specs.Fits.{_∈_}
+use Rattle.segment.specs.Elements.{_∈_}
 
 -- the positions that are not below a target, of a list that rises
 abbrev pub onward : ℕ → List ℕ → List ℕ

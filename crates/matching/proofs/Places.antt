@@ -11,7 +11,8 @@ use lib.Dec.{eqb}
 use borrow.Author.Tests.{eqb-true, eqb-false}
 use Rattle.reading.specs.declared.positions.Positions.{Positions}
 use Rattle.reading.specs.Cursors.{positions-from, Sought-position}
-use Rattle.matching.specs.Fits.{_∈_, no-positions, stands}
+use Rattle.matching.specs.Fits.{no-positions, stands}
+use Rattle.segment.specs.Elements.{_∈_}
 use Rattle.matching.proofs.Members.{sought-in, sought-back, from-low, from-first, from-none}
 use Rattle.matching.proofs.Leap.{Same}
 

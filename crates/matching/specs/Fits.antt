@@ -3,18 +3,13 @@ use Prim.Native.Nat.{ℕ, suc, _+_, _^_, _≤_, _<_}
 use mathlib.Core.Path.{_≡_}
 use mathlib.Core.Bool.{Bool, true, false, cond, _&&_}
 use mathlib.Core.List.{List, [], _∷_}
-use mathlib.Core.Logic.{_⊎_}
 use lib.Dec.{leb}
 use lib.ListN.{length, getD}
 use Rattle.reading.specs.declared.positions.Positions.{Positions}
+use Rattle.segment.specs.Elements.{_∈_}
 use Rattle.segment.specs.Held.{seek-in}
 use Rattle.reading.specs.Cursors.{positions-from}
 use Rattle.matching.specs.declared.pass.Moved.{Moved}
-
-infix 20 _∈_
-abbrev pub _∈_ : ℕ → List ℕ → Type 0
-x ∈ [] = ⊥
-x ∈ (y ∷ ys) = (x ≡ y) ⊎ (x ∈ ys)
 
 abbrev pub no-positions : Positions
 no-positions = record { at = 0; left = 0; pos = record { 0 = 0 } }

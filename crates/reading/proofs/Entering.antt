@@ -3,67 +3,42 @@
 use Prim.Native.Nat.{ℕ, zero, suc, _-_, _^_}
 use mathlib.Core.Path.{_≡_, refl, sym, ap, _∙_}
 use mathlib.Core.List.{List, []}
-use mathlib.Core.Bool.{Bool, true, false}
 use mathlib.Core.Option.{Option, none, some}
 use native.Mathlib.Omega.{arith}
 use lib.Dec.{ltb}
 use lib.ListN.{drop}
-use Rattle.codec.specs.Leb128.{Leb, stored}
+use Rattle.codec.specs.Leb128.{stored}
 use Rattle.codec.specs.Reading.{decodedAt}
 use Rattle.codec.specs.declared.varint.Number.{Number}
 use Rattle.codec.specs.declared.varint.Decoded.the-variants.{Value, Refused}
 use Rattle.segment.specs.declared.refusal.Refusal.{Refusal}
 use Rattle.segment.specs.Refusals.{postings}
-use Rattle.segment.specs.Results.{Result, ok, refuse, _>>=_, check}
-use Rattle.segment.specs.Records.{Read, number, number-or, at-gap, rises}
+use Rattle.segment.specs.Results.{Result, ok, refuse, check}
+use Rattle.segment.specs.Records.{Read, number, at-gap, rises}
 use Rattle.segment.specs.Postings.{read-value}
 use Rattle.segment.specs.Walks.{skipped}
 use Rattle.segment.specs.Held.{rest-of}
 use Rattle.segment.specs.Spots.{Spot, value-at, spot-at, held-postings, held-positions}
-use Rattle.segment.proofs.Gaps.{number-refused, number-value}
+use Rattle.segment.proofs.Binds.{carried, carried-ok, carried-bind, carried-check}
+use Rattle.segment.proofs.Gaps.{number-refused, number-value, carried-number}
 use Rattle.reading.specs.Cursors.{postings-at, positions-at}
 use Rattle.reading.proofs.Seeks.{Ahead, none, one}
-
--- the value alone
-abbrev carried : Result (Read ℕ) → Option (Read ℕ)
-carried (ok v) = some v
-carried (refuse x) = none
-
-carried-ok : (r : Result (Read ℕ)) {v : Read ℕ} → carried r ≡ some v → r ≡ ok v
-carried-ok (ok v) e = cc
-carried-ok (refuse x) e = let z : _≡_ {A = ℕ} 0 1 = cc in absurd (omega arith)
 
 carried-none : (r : Result (Read ℕ)) → carried r ≡ none → (x : Refusal) × (r ≡ refuse x)
 carried-none (ok v) e = let z : _≡_ {A = ℕ} 0 1 = cc in absurd (omega arith)
 carried-none (refuse x) e = (x, refl)
 
--- a gap's value after its two tests
-abbrev tested : (over order : Refusal) (previous : Option ℕ) → Read ℕ → Result (Read ℕ)
-tested over order previous gap =
-    check (ltb (at-gap previous (gap .got)) (2 ^ 32)) over >>= (λ _.
-    check (rises previous (at-gap previous (gap .got))) order >>= (λ _.
-    ok (record { got = at-gap previous (gap .got); rest = gap .rest })))
-
 -- what a value's refusals would be shows only in them
 module _ (over order over' order' : Refusal) (index index' : ℕ) (previous : Option ℕ) (bytes : List ℕ) where
-  tests : (r : Read ℕ) (t u : Bool)
-      → carried (check t over >>= (λ _. check u order >>= (λ _. ok r))) ≡ carried (check t over' >>= (λ _. check u order' >>= (λ _. ok r)))
-  tests r true true = refl
-  tests r true false = refl
-  tests r false true = refl
-  tests r false false = refl
-
-  gaps : (o : Option Leb)
-      → carried (number-or postings index bytes o >>= tested over order previous)
-      ≡ carried (number-or postings index' bytes o >>= tested over' order' previous)
-  gaps none = refl
-  gaps (some r) =
-      let v = at-gap previous (r .value) in
-      tests (record { got = v; rest = drop (r .size) bytes }) (ltb v (2 ^ 32)) (rises previous v)
-
   any-refusal : carried (read-value over order index previous bytes) ≡ carried (read-value over' order' index' previous bytes)
   unfolding read-value
-  any-refusal = gaps (stored bytes)
+  any-refusal =
+      carried-bind (number postings index bytes) (number postings index' bytes) _ _ (carried-number postings index index' bytes (stored bytes))
+      (λ g.
+      let t = ltb (at-gap previous (g .got)) (2 ^ 32) in
+      let u = rises previous (at-gap previous (g .got)) in
+      carried-bind (check t over) (check t over') _ _ (carried-check t over over')
+      (λ _. carried-bind (check u order) (check u order') _ _ (carried-check u order order') (λ _. refl)))
 
   pub value-ok : {v : Read ℕ} → read-value over order index previous bytes ≡ ok v → read-value over' order' index' previous bytes ≡ ok v
   value-ok e = carried-ok _ (sym any-refusal ∙ ap carried e)

@@ -9,8 +9,8 @@ use lib.ListN.{length, length-drop}
 use lib.Seq.{drop-drop}
 use borrow.Author.Tests.{eq-eqb, ne-eqb}
 use Rattle.codec.specs.Crc32.{crc32Of}
-use Rattle.segment.specs.declared.header.Layout.{Layout}
-use Rattle.segment.specs.declared.directory.TermEntry.the-variants as place
+use Rattle.opening.specs.declared.header.Layout.{Layout}
+use Rattle.opening.specs.declared.directory.TermEntry.the-variants as place
 use Rattle.segment.specs.declared.lists.Tally.{Tally}
 use Rattle.segment.specs.declared.lists.Tally.the-variants as tally
 use Rattle.segment.specs.declared.refusal.Refusal.{Refusal}
@@ -19,12 +19,12 @@ use Rattle.segment.specs.Results.{Result, ok, refuse}
 use Rattle.segment.specs.Records.{Document, Posting, Entry, Segment, field}
 use Rattle.segment.specs.Directory.{entry-of}
 use Rattle.segment.specs.Postings.{all-postings, decode, total-positions}
-use Rattle.segment.specs.Layouts.{cut}
+use Rattle.opening.specs.Layouts.{cut}
 use Rattle.segment.specs.Walks.{tallied}
-use Rattle.segment.specs.Terms.{Entry-inside, Located}
-use Rattle.segment.specs.Opened.{Is-open}
-use Rattle.segment.proofs.Checks.{to-end}
-use Rattle.segment.proofs.Lookup.{located-at, located-nowhere}
+use Rattle.opening.specs.Terms.{Entry-inside, Located}
+use Rattle.opening.specs.Opened.{Is-open}
+use Rattle.opening.proofs.Checks.{to-end}
+use Rattle.opening.proofs.Lookup.{located-at, located-nowhere}
 use Rattle.reading.specs.declared.term.TermList.{TermList}
 use Rattle.reading.specs.declared.term.TermFound.the-variants as found
 use Rattle.reading.specs.Found.{Opened-as, entry-named, list-entry, Term-found}

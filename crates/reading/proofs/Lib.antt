@@ -4,3 +4,4 @@ pub mod Entering
 pub mod Rising
 pub mod Finding
 pub mod Longer
+pub mod Naming

@@ -4,12 +4,12 @@ use mathlib.Core.Path.{_≡_}
 use mathlib.Core.List.{List, []}
 use mathlib.Core.Option.{none, some}
 use lib.ListN.{length}
-use Rattle.segment.specs.declared.header.Layout.{Layout}
-use Rattle.segment.specs.Records.{Entry, Segment}
+use Rattle.opening.specs.declared.header.Layout.{Layout}
+use Rattle.segment.specs.Records.{Entry, Segment, between}
 use Rattle.segment.specs.Directory.{entry-of}
-use Rattle.segment.specs.Layouts.{between, cut}
-use Rattle.segment.specs.Terms.{name-at}
-use Rattle.segment.specs.Opened.{Is-open}
+use Rattle.opening.specs.Layouts.{cut}
+use Rattle.opening.specs.Terms.{name-at}
+use Rattle.opening.specs.Opened.{Is-open}
 use Rattle.reading.specs.declared.term.TermList.{TermList}
 use Rattle.reading.specs.declared.term.TermFound.{TermFound}
 use Rattle.reading.specs.declared.term.TermFound.the-variants as found

@@ -1,10 +1,10 @@
 // A term found in an open segment, and its posting list decoded.
 use codec::crc32::crc32;
-use segment::directory::TermEntry;
-use segment::directory::term_entry;
+use opening::directory::TermEntry;
+use opening::directory::term_entry;
+use opening::header::Layout;
 use segment::fixed::read_u32_at;
 use segment::fixed::read_usize_at;
-use segment::header::Layout;
 use segment::lists::Tally;
 use segment::lists::decode_postings_bytes;
 use segment::refusal::CHECKSUM_MISMATCH;
@@ -14,7 +14,7 @@ ghost use mathlib.Core.Path.{_≡_};
 ghost use mathlib.Core.Option.{none};
 ghost use Prim.Native.Nat.{_≤_};
 ghost use lib.ListN.{length};
-ghost use Rattle.segment.specs.Layouts.{Ordered, cut};
+ghost use Rattle.opening.specs.Layouts.{Ordered, cut};
 ghost use Rattle.segment.specs.Held.{held-documents};
 ghost use Rattle.segment.specs.Postings.{decode};
 ghost use Rattle.segment.specs.Walks.{tallied};

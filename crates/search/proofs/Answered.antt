@@ -10,7 +10,7 @@ use native.Mathlib.Omega.{arith}
 use lib.ListN.{length, length-map, drop, getD}
 use lib.Seq.{sets-eq}
 use borrow.Author.Tests.{le-leb, lt-leb}
-use Rattle.segment.specs.declared.header.Layout.{Layout}
+use Rattle.opening.specs.declared.header.Layout.{Layout}
 use Rattle.segment.specs.declared.metadata.Checked.the-variants as check
 use Rattle.segment.specs.declared.refusal.Refusal.{Refusal}
 use Rattle.segment.specs.Refusals.{no-room}
@@ -32,16 +32,16 @@ use Rattle.reading.proofs.Finding.{nameless}
 use Rattle.reading.proofs.Longer.{decoded-walked}
 use Rattle.search.specs.declared.document.Ask.{Ask}
 use Rattle.search.specs.declared.slots.Slots.{Slots}
-use Rattle.search.specs.Members.{_∈_, kept}
-use Rattle.search.specs.Questions.{Rule, Phrase, Ordered, Unordered, under, own, different, decode-names, answer, answers}
+use Rattle.search.specs.Members.{kept}
+use Rattle.segment.specs.Elements.{_∈_, Rising}
+use Rattle.search.specs.Questions.{under, own, different, decode-names, answer, answers}
 use Rattle.search.specs.Standing.{rule-of, no-posting, In-slots}
 use Rattle.search.specs.Walked.{list-of, Found-ids, Documents-found}
 use Rattle.search.specs.Decoded.{Lists-inside, decode-from, lists-decoded, Slots-long, Heads, Askable, answer-in, Replies}
 use Rattle.search.proofs.Membership.{at-place}
 use Rattle.search.proofs.Kept.{kept-fewer}
-use Rattle.search.proofs.Rising.{Rising}
 use Rattle.search.proofs.Decoding.{verdict, verdict-refused, verdict-ok, asked-under}
-use Rattle.search.proofs.Answering.{docs, ids, met, answer-of-name, Enough, awake-is, answers-found, answers-refused}
+use Rattle.search.proofs.Answering.{docs, ids, met, answer-of-name, awake-is, some-named, answers-found, answers-refused}
 use Rattle.search.proofs.Slots-named.{Holding, list-at}
 use Rattle.search.proofs.Slots-used.{slot-list, slot-below, in-slots, numbers, lists-decode}
 use Rattle.search.proofs.Walks.{rising}
@@ -68,11 +68,6 @@ cursor-few (suc n) at count doc bytes = omega (arith, spots-few n (some doc) (sk
 
 -- ---- slots that names of a question resolved to
 
-some-name : (rule : Rule) (k : ℕ) → Enough rule k → 0 < k
-some-name Phrase k h = h
-some-name (Ordered w) k h = omega arith
-some-name (Unordered w) k h = omega arith
-
 module _ {bytes : List ℕ} {at : Layout} {a : Ask} {slots : Slots} (q : Askable bytes at a slots) where
   is-opened : Opened-as bytes at
   is-opened = (q .segment, q .is-open)
@@ -92,7 +87,7 @@ module _ {bytes : List ℕ} {at : Layout} {a : Ask} {slots : Slots} (q : Askable
   }
 
   named : 0 < slots .places
-  named = omega (arith, held .places, some-name (rule-of a) (length (q .names)) (awake-is (rule-of a) (length (q .names)) .0 (q .awake)))
+  named = omega (arith, held .places, some-named (rule-of a) (length (q .names)) (awake-is (rule-of a) (length (q .names)) .0 (q .awake)))
 
   -- ---- the lists decoded
 

@@ -14,11 +14,14 @@ use Rattle.segment.specs.declared.refusal.Refusal.{Refusal}
 use Rattle.segment.specs.Results.{ok, refuse}
 use Rattle.segment.specs.Records.{Document, Posting, Term, Segment}
 use Rattle.reading.specs.Lookups.{positions-of}
-use Rattle.search.specs.Members.{_∈_, kept}
+use Rattle.search.specs.Members.{kept}
+use Rattle.segment.specs.Elements.{_∈_, Rising}
 use Rattle.search.specs.Questions.{Rule, Phrase, Ordered, Unordered, meets, idle, under, own, different, decode-names, answer, answers}
-use Rattle.search.proofs.Membership.{neither, kept-gives, kept-from, map-from}
+use Rattle.search.specs.Claims.{Enough}
+use Rattle.search.proofs.Membership.{neither, kept-gives, kept-from}
 use Rattle.search.proofs.Kept.{kept-same, map-kept}
-use Rattle.search.proofs.Rising.{Rising, rising-tail, rising-above, kept-rises, kept-of-part}
+use Rattle.search.proofs.Rising.{kept-rises, kept-of-part}
+use Rattle.segment.proofs.Elements.{rising-tail, rising-above, map-from}
 use Rattle.search.proofs.Asked.{meets-same, needs-each}
 
 -- ---- the postings' documents, and the documents' ids
@@ -90,12 +93,6 @@ module _ (rule : Rule) (ns : List (List ℕ)) (documents : List Document) where
 
 -- ---- which questions are put
 
--- a phrase of one name or more, a near question of two or more with a window of 1 or more
-abbrev pub Enough : Rule → ℕ → Type 0
-Enough Phrase k = 1 ≤ k
-Enough (Ordered w) k = (2 ≤ k) × (1 ≤ w)
-Enough (Unordered w) k = (2 ≤ k) × (1 ≤ w)
-
 near-idle : (k w : ℕ) → (ltb k 2 || eqb w 0 ≡ false) ↔ ((2 ≤ k) × (1 ≤ w))
 near-idle k w = (
   λ e. let (a, b) = neither (ltb k 2) (eqb w 0) e in omega (arith, ltb-false k 2 a, eqb-false w 0 b),
@@ -106,6 +103,11 @@ pub awake-is : (rule : Rule) (k : ℕ) → (idle rule k ≡ false) ↔ Enough ru
 awake-is Phrase k = (λ e. omega (arith, eqb-false k 0 e), λ h. ne-eqb k 0 (λ e. omega arith))
 awake-is (Ordered w) k = near-idle k w
 awake-is (Unordered w) k = near-idle k w
+
+pub some-named : (rule : Rule) (k : ℕ) → Enough rule k → 0 < k
+some-named Phrase k h = h
+some-named (Ordered w) k h = omega arith
+some-named (Unordered w) k h = omega arith
 
 module _ (s : Segment) (rule : Rule) (ns : List (List ℕ)) where
   pub answers-idle : idle rule (length ns) ≡ true → answers s rule ns ≡ ok []

@@ -8,7 +8,8 @@ use Prim.Native.Nat.{ℕ, suc, _+_, _≤_, _<_}
 use native.Mathlib.Omega.{arith}
 use lib.Dec.{ltb, leb}
 use lib.ListN.{length, getD}
-use Rattle.search.specs.Members.{_∈_, joined}
+use Rattle.search.specs.Members.{joined}
+use Rattle.segment.specs.Elements.{_∈_}
 use Rattle.search.specs.Words.{mentions, within}
 use Rattle.search.specs.Rules.{phrase-at, starts, some-left, chain-from, ordered, unordered-at, unordered}
 use Rattle.search.specs.Questions.{Rule, Phrase, Ordered, Unordered, meets}

@@ -27,7 +27,7 @@ use Rattle.search.specs.Questions.{Rule, Unordered, idle, search, check-
 use Rattle.search.specs.Standing.{rule-of}
 use Rattle.search.specs.Decoded.{two-checks, answer-in, Replies}
 use Rattle.search.specs.Asked.{Text-answered, Two-answered}
-use Rattle.search.proofs.Shapes.{shape-is}
+use Rattle.segment.proofs.Shapes.{shape-is}
 use Rattle.search.proofs.Well-formed.{passes-exactly}
 use Rattle.search.proofs.Answering.{answers-idle}
 

@@ -11,7 +11,7 @@ use lib.Dec.{ltb, leb}
 use lib.ListN.{length, getD}
 use borrow.Author.Tests.{ltb-true, lt-ltb, leb-true, le-leb}
 use Rattle.codec.proofs.Loops.{lt-or-ge, and-left, and-right}
-use Rattle.search.specs.Members.{_∈_}
+use Rattle.segment.specs.Elements.{_∈_}
 use Rattle.search.specs.Words.{Has-ordered}
 use Rattle.search.specs.Rules.{chain-from, ordered}
 use Rattle.search.proofs.Membership.{some-gives, some-from}

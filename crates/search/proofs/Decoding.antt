@@ -12,10 +12,11 @@ use Rattle.segment.specs.Results.{Result, ok, refuse, _>>=_}
 use Rattle.segment.specs.Records.{Posting, Term, Segment}
 use Rattle.segment.specs.Names.{same}
 use Rattle.reading.specs.Lookups.{postings-of}
-use Rattle.search.specs.Members.{_∈_, kept}
+use Rattle.search.specs.Members.{kept}
+use Rattle.segment.specs.Elements.{_∈_}
 use Rattle.search.specs.Questions.{under, different, decode-names}
-use Rattle.search.proofs.Strings.{same-refl, same-is, apart}
-use Rattle.search.proofs.Accepted.{bind-ok}
+use Rattle.segment.proofs.Strings.{same-refl, same-is, apart}
+use Rattle.segment.proofs.Binds.{bind-gives}
 use Rattle.search.proofs.Different.{other, by-name, different-are}
 
 abbrev pub term : List ℕ → List Posting → Term
@@ -58,8 +59,8 @@ module _ (s : Segment) where
   decoded : (m : List ℕ) (ms : List (List ℕ)) {ts : List Term} → decode-names s (m ∷ ms) ≡ ok ts → Decoded m ms ts
   unfolding decode-names
   decoded m ms e =
-      let (ps, a, f) = bind-ok (postings-of s m) _ e in
-      let (more, b, g) = bind-ok (decode-names s ms) _ f in
+      let (ps, a, f) = bind-gives (postings-of s m) _ e in
+      let (more, b, g) = bind-gives (decode-names s ms) _ f in
       record { postings = ps; more = more; here = a; later = b; are = cc }
 
   pub decoded-under : (ms : List (List ℕ)) (ts : List Term) → decode-names s ms ≡ ok ts

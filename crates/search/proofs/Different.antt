@@ -11,10 +11,11 @@ use lib.ListN.{length, getD, length-append}
 use borrow.Author.Tests.{not-true}
 use Rattle.codec.proofs.Loops.{true-false}
 use Rattle.segment.specs.Names.{same}
-use Rattle.search.specs.Members.{_∈_, kept}
+use Rattle.search.specs.Members.{kept}
+use Rattle.segment.specs.Elements.{_∈_}
 use Rattle.search.specs.Words.{mentions}
 use Rattle.search.specs.Questions.{different}
-use Rattle.search.proofs.Strings.{same-refl, same-is, apart}
+use Rattle.segment.proofs.Strings.{same-refl, same-is, apart}
 use Rattle.search.proofs.Membership.{at-place, kept-gives, kept-from}
 use Rattle.search.proofs.Kept.{kept-fewer, kept-append}
 

@@ -4,7 +4,7 @@ use Prim.Native.Nat.{ℕ, suc, _+_, _≤_, _<_}
 use mathlib.Core.Path.{_≡_, refl, sym, ap, _∙_}
 use mathlib.Core.Bool.{Bool, true, false, cond, _&&_}
 use mathlib.Core.List.{List, [], _∷_}
-use mathlib.Core.Logic.{inl, inr, _↔_}
+use mathlib.Core.Logic.{_↔_}
 use native.Mathlib.Omega.{arith}
 use lib.Dec.{leb}
 use lib.ListN.{length, getD}
@@ -12,25 +12,15 @@ use Rattle.reading.specs.declared.positions.Positions.{Positions}
 use Rattle.reading.specs.declared.postings.Postings.{Postings}
 use Rattle.matching.specs.Fits as fits
 use Rattle.matching.proofs.Bridges.{place-lists, place-list, found-phrase, found-unordered, chained-lists}
-use Rattle.search.specs.Members.{_∈_, kept}
+use Rattle.search.specs.Members.{kept}
+use Rattle.segment.specs.Elements.{_∈_}
 use Rattle.search.specs.Words.{mentions, within}
 use Rattle.search.specs.Questions.{Rule, Phrase, Ordered, Unordered, meets, Meets}
 use Rattle.search.specs.Standing.{Numbered, Places-opened, Terms-opened, positions-under, no-posting}
 use Rattle.search.proofs.Membership.{place-of, at-place}
 use Rattle.search.proofs.Rules-hold.{rules-agree}
 
--- ---- the same words for numbers and for any elements
-
-into : (l : List ℕ) (x : ℕ) → fits._∈_ x l → x ∈ l
-into [] x m = m
-into (y ∷ l) x (inl e) = inl e
-into (y ∷ l) x (inr m) = inr (into l x m)
-
-back : (l : List ℕ) (x : ℕ) → x ∈ l → fits._∈_ x l
-back [] x m = m
-back (y ∷ l) x (inl e) = inl e
-back (y ∷ l) x (inr m) = inr (back l x m)
-
+-- the positions in a window are counted alike
 same-within : (start w : ℕ) (l : List ℕ) → fits.within start w l ≡ within start w l
 unfolding fits.within within kept
 same-within start w [] = refl
@@ -59,11 +49,11 @@ module _ (bytes : List ℕ) (n : ℕ) (slot : List ℕ) (m : ℕ) (named : List 
     lists-are : (i : ℕ) → i < n → getD (place-lists bytes n cs) i [] ≡ own (getD ns i [])
     lists-are i h = place-list bytes n cs i h ∙ opened .each i h ∙ sym (stand i h)
 
-    on-own : (i p : ℕ) → i < n → fits._∈_ p (getD (place-lists bytes n cs) i []) → p ∈ own (getD ns i [])
-    on-own i p h k = into (own (getD ns i [])) p (rw (lists-are i h) at k)
+    on-own : (i p : ℕ) → i < n → p ∈ getD (place-lists bytes n cs) i [] → p ∈ own (getD ns i [])
+    on-own i p h k = rw (lists-are i h) at k
 
-    on-list : (i p : ℕ) → i < n → p ∈ own (getD ns i []) → fits._∈_ p (getD (place-lists bytes n cs) i [])
-    on-list i p h k = rw (lists-are i h) (back (own (getD ns i [])) p k)
+    on-list : (i p : ℕ) → i < n → p ∈ own (getD ns i []) → p ∈ getD (place-lists bytes n cs) i []
+    on-list i p h k = rw (lists-are i h) k
 
     pub phrase-told : {r : Bool} → fits.Found n (fits.stands bytes cs) r → r ≡ meets Phrase own ns
     phrase-told {r} f =

@@ -8,7 +8,8 @@ use Prim.Native.Nat.{_≤_}
 use native.Mathlib.Omega.{arith}
 use lib.ListN.{length}
 use Rattle.codec.proofs.Loops.{true-false}
-use Rattle.search.specs.Members.{_∈_, every, some-of, kept}
+use Rattle.search.specs.Members.{every, some-of, kept}
+use Rattle.segment.specs.Elements.{_∈_}
 
 -- two tests that agree on the elements
 module _ {A : Type 0} (f g : A → Bool) where

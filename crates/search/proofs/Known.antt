@@ -11,21 +11,20 @@ use lib.Dec.{eqb}
 use lib.ListN.{length}
 use borrow.Author.Tests.{eqb-true}
 use Rattle.codec.specs.Crc32.{crc32Of}
-use Rattle.segment.specs.declared.header.Layout.{Layout}
+use Rattle.opening.specs.declared.header.Layout.{Layout}
 use Rattle.segment.specs.Results.{ok}
 use Rattle.segment.specs.Records.{Document, Posting, Entry, Segment, Read}
 use Rattle.segment.specs.Metadata.{length-of}
 use Rattle.segment.specs.Postings.{read-head, read-positions, read-posting, read-postings, all-postings, decode}
-use Rattle.segment.specs.Layouts.{cut}
+use Rattle.opening.specs.Layouts.{cut}
 use Rattle.segment.specs.Held.{held-documents}
-use Rattle.segment.specs.Opened.{Is-open}
+use Rattle.opening.specs.Opened.{Is-open}
 use Rattle.segment.proofs.Binds.{ok-same, bind-gives}
 use Rattle.segment.proofs.Accepted.{check-gives}
 use Rattle.segment.proofs.Posting-reads.{head-read}
 use Rattle.segment.proofs.Documents-held.{held-rise}
 use Rattle.segment.proofs.Documents-held as documents
-use Rattle.search.specs.Members.{_∈_}
-use Rattle.search.proofs.Rising.{Rising}
+use Rattle.segment.specs.Elements.{_∈_, Rising}
 use Rattle.search.proofs.Answering.{docs, ids}
 
 -- ---- the segment's ids

@@ -2,13 +2,10 @@
 pub mod Membership
 pub mod Kept
 pub mod Rising
-pub mod Strings
 pub mod Starts
 pub mod Chains
 pub mod Windows
 pub mod Rules-hold
-pub mod Shapes
-pub mod Accepted
 pub mod Well-formed
 pub mod Asked
 pub mod Different

@@ -11,7 +11,9 @@ use lib.Dec.{eqb}
 use lib.ListN.{length, getD}
 use borrow.Author.Tests.{eqb-true, eq-eqb}
 use Rattle.codec.proofs.Loops.{true-false, and-left, and-right}
-use Rattle.search.specs.Members.{_∈_, every, some-of, kept, joined}
+use Rattle.search.specs.Members.{every, some-of, kept, joined}
+use Rattle.segment.specs.Elements.{_∈_}
+use Rattle.segment.proofs.Elements.{append-left, append-right}
 
 pub or-cases : (a b : Bool) → a || b ≡ true → (a ≡ true) ⊎ (b ≡ true)
 or-cases true b e = inl refl
@@ -115,15 +117,6 @@ module _ {A : Type 0} where
       step (inl k) = inl (inr k)
       step (inr k) = inr k
 
-  pub append-left : (xs ys : List A) (x : A) → x ∈ xs → x ∈ (xs ++ ys)
-  append-left [] ys x m = absurd m
-  append-left (y ∷ xs) ys x (inl e) = inl e
-  append-left (y ∷ xs) ys x (inr m) = inr (append-left xs ys x m)
-
-  pub append-right : (xs ys : List A) (x : A) → x ∈ ys → x ∈ (xs ++ ys)
-  append-right [] ys x m = m
-  append-right (y ∷ xs) ys x m = inr (append-right xs ys x m)
-
   pub joined-gives : (xss : List (List A)) (x : A) → x ∈ joined xss → (xs : List A) × (xs ∈ xss) × (x ∈ xs)
   unfolding joined
   joined-gives [] x m = absurd m
@@ -145,8 +138,3 @@ module _ {A B : Type 0} (f : A → B) where
   map-gives [] y m = absurd m
   map-gives (x ∷ xs) y (inl e) = (x, inl refl, e)
   map-gives (x ∷ xs) y (inr m) = let (z, k, e) = map-gives xs y m in (z, inr k, e)
-
-  pub map-from : (xs : List A) (x : A) → x ∈ xs → f x ∈ map f xs
-  map-from [] x m = absurd m
-  map-from (y ∷ ys) x (inl e) = inl (ap f e)
-  map-from (y ∷ ys) x (inr m) = inr (map-from ys x m)

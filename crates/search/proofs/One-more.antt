@@ -11,7 +11,7 @@ use lib.ListN.{length, getD, set}
 use lib.Seq.{getD-set-same, getD-set-other}
 use borrow.Author.Tests.{eqb-true, eqb-false}
 use Rattle.codec.proofs.Loops.{lt-or-ge}
-use Rattle.search.specs.Members.{_∈_}
+use Rattle.segment.specs.Elements.{_∈_}
 use Rattle.search.proofs.Membership.{append-gives}
 
 pub equal-or-not : (a b : ℕ) → (a ≡ b) ⊎ (a ≡ b → ⊥)

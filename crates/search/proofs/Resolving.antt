@@ -9,9 +9,9 @@ use Prim.Native.Nat.{ℕ, _≤_, _<_}
 use native.Mathlib.Omega.{arith}
 use lib.ListN.{length, length-append}
 use Rattle.codec.proofs.Loops.{true-false, lt-or-ge}
-use Rattle.segment.specs.declared.header.Layout.{Layout}
+use Rattle.opening.specs.declared.header.Layout.{Layout}
 use Rattle.segment.specs.Names.{precedes}
-use Rattle.segment.specs.Terms.{Sorted, name-at}
+use Rattle.opening.specs.Terms.{Sorted, name-at}
 use Rattle.segment.proofs.Strings.{precedes-irreflexive}
 use Rattle.reading.specs.declared.term.TermFound.{TermFound}
 use Rattle.reading.specs.Found.{Opened-as, Term-found}

@@ -6,23 +6,10 @@ use mathlib.Core.List.{List, [], _∷_}
 use mathlib.Core.Logic.{inl, inr}
 use Prim.Native.Nat.{ℕ, _<_}
 use native.Mathlib.Omega.{arith}
-use Rattle.search.specs.Members.{_∈_, kept}
+use Rattle.search.specs.Members.{kept}
+use Rattle.segment.specs.Elements.{_∈_, Rising}
+use Rattle.segment.proofs.Elements.{rising-tail, rising-above}
 use Rattle.search.proofs.Membership.{kept-gives, kept-from}
-
--- each next one is greater
-abbrev pub Rising : List ℕ → Type 0
-Rising [] = Unit {0}
-Rising (x ∷ []) = Unit {0}
-Rising (x ∷ (y ∷ zs)) = (x < y) × Rising (y ∷ zs)
-
-pub rising-tail : (x : ℕ) (xs : List ℕ) → Rising (x ∷ xs) → Rising xs
-rising-tail x [] r = tt
-rising-tail x (y ∷ ys) r = r .1
-
-pub rising-above : (x : ℕ) (xs : List ℕ) → Rising (x ∷ xs) → (y : ℕ) → y ∈ xs → x < y
-rising-above x [] r y m = absurd m
-rising-above x (z ∷ zs) (up, r) y (inl e) = omega arith
-rising-above x (z ∷ zs) (up, r) y (inr m) = omega (arith, rising-above z zs r y m)
 
 pub rising-cons : (x : ℕ) (xs : List ℕ) → ((y : ℕ) → y ∈ xs → x < y) → Rising xs → Rising (x ∷ xs)
 rising-cons x [] h r = tt

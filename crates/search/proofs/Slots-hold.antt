@@ -14,7 +14,7 @@ use Rattle.reading.specs.declared.term.TermList.{TermList}
 use Rattle.reading.specs.declared.term.TermFound.{TermFound}
 use Rattle.reading.specs.declared.term.TermFound.the-variants as found
 use Rattle.search.specs.declared.slots.Slots.{Slots}
-use Rattle.search.specs.Members.{_∈_}
+use Rattle.segment.specs.Elements.{_∈_}
 use Rattle.search.specs.Resolved.{no-list, no-slots, slot-for, placed, with-found, resolved, Founds, none-left, one-more, Slots-room}
 use Rattle.search.proofs.Slot-turns.{slot-range}
 

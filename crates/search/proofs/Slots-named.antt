@@ -17,13 +17,14 @@ use Rattle.reading.specs.declared.term.TermFound.{TermFound}
 use Rattle.reading.specs.declared.term.TermFound.the-variants as found
 use Rattle.segment.specs.Names.{same}
 use Rattle.search.specs.declared.slots.Slots.{Slots}
-use Rattle.search.specs.Members.{_∈_}
+use Rattle.segment.specs.Elements.{_∈_}
 use Rattle.search.specs.Words.{mentions}
 use Rattle.search.specs.Questions.{different}
 use Rattle.search.specs.Resolved.{no-list, no-slots, placed, with-found, resolved, Founds, none-left, one-more}
-use Rattle.search.proofs.Strings.{apart}
+use Rattle.segment.proofs.Strings.{apart}
 use Rattle.search.proofs.Kept.{kept-none}
-use Rattle.search.proofs.Membership.{append-left, append-right, place-of}
+use Rattle.search.proofs.Membership.{place-of}
+use Rattle.segment.proofs.Elements.{append-left, append-right}
 use Rattle.search.proofs.Different.{in-or-out, different-new, different-again, mentions-again, mentions-other}
 use Rattle.search.proofs.Slot-turns.{slot-range, slot-finds, slot-skips}
 use Rattle.search.proofs.Slots-hold.{slot-in, Slots-sound, sound-none, placed-sound, sound-with, zeros}

@@ -15,7 +15,7 @@ use Rattle.reading.specs.Lookups.{postings-of}
 use Rattle.segment.specs.Results.{Result, ok, _>>=_}
 use Rattle.segment.specs.Records.{Posting, Segment}
 use Rattle.search.specs.declared.slots.Slots.{Slots}
-use Rattle.search.specs.Members.{_∈_}
+use Rattle.segment.specs.Elements.{_∈_}
 use Rattle.search.specs.Questions.{different, decode-names}
 use Rattle.search.specs.Standing.{In-slots, Numbered}
 use Rattle.search.specs.Resolved.{no-list, Slots-room}

@@ -9,11 +9,11 @@ use native.Mathlib.Nat.{add-zero, suc-add, add-suc, not-suc-le-zero, le-of-suc-l
 use native.Mathlib.Omega.{arith}
 use lib.ListN.{length, getD}
 use Rattle.codec.proofs.Loops.{true-false, and-left, and-right}
-use Rattle.search.specs.Members.{_∈_}
+use Rattle.segment.specs.Elements.{_∈_, Rising}
 use Rattle.search.specs.Words.{Has-phrase}
 use Rattle.search.specs.Rules.{has, phrase-at, starts, some-left, phrase}
 use Rattle.search.proofs.Membership.{has-gives, has-from, kept-gives, kept-from}
-use Rattle.search.proofs.Rising.{Rising, kept-rises}
+use Rattle.search.proofs.Rising.{kept-rises}
 
 -- name i stands on start + i
 abbrev pub Stands-from : ℕ → (List ℕ → List ℕ) → List (List ℕ) → Type 0

@@ -13,11 +13,12 @@ use lib.ListN.{length, set}
 use lib.Seq.{sets}
 use borrow.Author.Tests.{leb-true, le-leb, lt-leb}
 use Rattle.codec.proofs.Loops.{lt-or-ge, and-left, and-right}
-use Rattle.search.specs.Members.{_∈_, kept}
+use Rattle.search.specs.Members.{kept}
+use Rattle.segment.specs.Elements.{_∈_, Rising}
 use Rattle.search.specs.Walked.{Found-ids}
 use Rattle.search.proofs.Membership.{kept-gives, kept-from}
 use Rattle.search.proofs.Kept.{kept-same, kept-none}
-use Rattle.search.proofs.Rising.{Rising, rising-cons, kept-rises, rising-unique}
+use Rattle.search.proofs.Rising.{rising-cons, kept-rises, rising-unique}
 
 -- what passes from a on
 abbrev pub later : (f : ℕ → Bool) (whole : List ℕ) (a : ℕ) → List ℕ

@@ -14,7 +14,7 @@ use Rattle.codec.specs.Utf8.{utf8}
 use Rattle.codec.proofs.Loops.{drop-step, drop-end, and-left, and-right}
 use Rattle.segment.specs.Refusals.{invalid-utf8, list-shape, too-large}
 use Rattle.segment.specs.Results.{Result, ok, refuse}
-use Rattle.segment.specs.Layouts.{between}
+use Rattle.segment.specs.Records.{between}
 use Rattle.segment.specs.Texts.{ends-fit, names}
 use Rattle.search.specs.Questions.{check-names, check-question}
 

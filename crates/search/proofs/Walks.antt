@@ -23,7 +23,7 @@ use Rattle.search.specs.Questions.{meets}
 use Rattle.search.specs.Standing.{rule-of, no-posting, positions-under, Numbered, Document-met}
 use Rattle.search.specs.Walked.{list-of, Documents-found}
 use Rattle.search.proofs.Membership.{at-place}
-use Rattle.search.proofs.Rising.{Rising}
+use Rattle.segment.specs.Elements.{Rising}
 use Rattle.search.proofs.Asked.{needs-each}
 use Rattle.search.proofs.Answering.{docs, positions-some}
 use Rattle.search.proofs.Stored.{Stored, stored-start, stored-end, stored-skip, stored-hit}

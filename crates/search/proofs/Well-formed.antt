@@ -1,12 +1,12 @@
 -- A question passes its tests exactly where it is well-formed.
 -- Assumes nothing.
-use mathlib.Core.Path.{_≡_, refl, ap}
+use mathlib.Core.Path.{_≡_, refl}
 use mathlib.Core.Bool.{_&&_}
 use mathlib.Core.List.{List, [], _∷_}
 use mathlib.Core.Logic.{inl, inr, _↔_}
-use Prim.Native.Nat.{ℕ, suc, _-_}
+use Prim.Native.Nat.{ℕ}
 use lib.Dec.{leb}
-use lib.ListN.{length, drop}
+use lib.ListN.{length}
 use borrow.Author.Tests.{leb-true, le-leb}
 use Rattle.codec.specs.Utf8.{Is-utf8, utf8}
 use Rattle.codec.proofs.Loops.{and-left, and-right}
@@ -14,23 +14,17 @@ use Rattle.codec.proofs.Text.{grammar-agrees}
 use Rattle.segment.specs.Refusals.{too-large, list-shape, invalid-utf8}
 use Rattle.segment.specs.Results.{ok}
 use Rattle.segment.specs.Texts.{ends-fit, names}
-use Rattle.search.specs.Members.{_∈_}
+use Rattle.segment.specs.Elements.{_∈_}
 use Rattle.search.specs.Questions.{check-names, check-question}
 use Rattle.search.specs.Claims as claims
-use Rattle.search.proofs.Shapes.{shape-is}
-use Rattle.search.proofs.Accepted.{check-ok}
-
--- as many names as ends
-pub names-count : (from : ℕ) (ends text : List ℕ) → length (names from ends text) ≡ length ends
-unfolding names
-names-count from [] text = refl
-names-count from (e ∷ es) text = ap suc (names-count e es (drop (e - from) text))
+use Rattle.segment.proofs.Shapes.{shape-is}
+use Rattle.segment.proofs.Accepted.{check-gives}
 
 names-each : (ns : List (List ℕ)) → check-names ns ≡ ok tt → (n : List ℕ) → n ∈ ns → Is-utf8 n
 unfolding check-names
 names-each [] e n m = absurd m
-names-each (k ∷ ks) e n (inl q) = rw q (grammar-agrees k .0 (check-ok (utf8 k) invalid-utf8 _ e .0))
-names-each (k ∷ ks) e n (inr m) = names-each ks (check-ok (utf8 k) invalid-utf8 _ e .1) n m
+names-each (k ∷ ks) e n (inl q) = rw q (grammar-agrees k .0 (check-gives (utf8 k) invalid-utf8 _ e .0))
+names-each (k ∷ ks) e n (inr m) = names-each ks (check-gives (utf8 k) invalid-utf8 _ e .1) n m
 
 names-all : (ns : List (List ℕ)) → ((n : List ℕ) → n ∈ ns → Is-utf8 n) → check-names ns ≡ ok tt
 unfolding check-names
@@ -44,8 +38,8 @@ pub passes-exactly : claims.Passes-exactly
 unfolding check-question
 passes-exactly text ends = (
   λ e.
-      let (size, f) = check-ok (leb (length text) 16777216 && leb (length ends) 128) too-large _ e in
-      let (shape, g) = check-ok (ends-fit 0 ends (length text)) list-shape _ f in
+      let (size, f) = check-gives (leb (length text) 16777216 && leb (length ends) 128) too-large _ e in
+      let (shape, g) = check-gives (ends-fit 0 ends (length text)) list-shape _ f in
       record {
         few = leb-true (length ends) 128 (and-right (leb (length text) 16777216) (leb (length ends) 128) size);
         small = leb-true (length text) 16777216 (and-left (leb (length text) 16777216) (leb (length ends) 128) size);

@@ -11,11 +11,13 @@ use lib.ListN.{length}
 use borrow.Author.Tests.{leb-true, le-leb}
 use Rattle.codec.proofs.Loops.{lt-or-ge, and-left, and-right}
 use Rattle.segment.specs.Names.{same}
-use Rattle.search.specs.Members.{_∈_, kept, joined}
+use Rattle.search.specs.Members.{kept, joined}
+use Rattle.segment.specs.Elements.{_∈_}
 use Rattle.search.specs.Words.{mentions, within, Has-unordered}
 use Rattle.search.specs.Rules.{unordered-at, unordered}
-use Rattle.search.proofs.Strings.{same-refl}
-use Rattle.search.proofs.Membership.{some-in, in-some, every-gives, every-from, some-gives, some-from, kept-gives, kept-from, joined-gives, joined-from, map-gives, map-from}
+use Rattle.segment.proofs.Strings.{same-refl}
+use Rattle.search.proofs.Membership.{some-in, in-some, every-gives, every-from, some-gives, some-from, kept-gives, kept-from, joined-gives, joined-from, map-gives}
+use Rattle.segment.proofs.Elements.{map-from}
 use Rattle.search.proofs.Kept.{kept-more, kept-fewer}
 
 -- ---- how many positions lie on the steps from a start on

@@ -8,8 +8,8 @@ use lib.ListN.{length}
 use Rattle.codec.specs.Utf8.{Is-utf8}
 use Rattle.segment.specs.Results.{ok}
 use Rattle.segment.specs.Texts.{Text-shape, names}
-use Rattle.search.specs.Members.{_∈_}
-use Rattle.search.specs.Questions.{Rule, meets, Meets, check-question}
+use Rattle.segment.specs.Elements.{_∈_}
+use Rattle.search.specs.Questions.{Rule, Phrase, Ordered, Unordered, meets, Meets, check-question}
 
 -- the tests are the rules in words, of every question that names something
 abbrev pub Rules-agree : Type 0
@@ -23,6 +23,12 @@ pub record Well-formed (text ends : List ℕ) : Type 0 where
   pub shape : Text-shape text ends
   pub each : (n : List ℕ) → n ∈ names 0 ends text → Is-utf8 n
 
--- kinds 12, 11 and 10 refuse exactly the others
+-- a question that is put: a phrase of 1 name or more, a near question of 2 or more with a window of 1 or more
+abbrev pub Enough : Rule → (names : ℕ) → Type 0
+Enough Phrase n = 1 ≤ n
+Enough (Ordered w) n = (2 ≤ n) × (1 ≤ w)
+Enough (Unordered w) n = (2 ≤ n) × (1 ≤ w)
+
+-- kinds 12, 11 and 10 refuse exactly those that are not well-formed
 abbrev pub Passes-exactly : Type 0
 Passes-exactly = (text ends : List ℕ) → (check-question text ends ≡ ok tt) ↔ Well-formed text ends

@@ -6,17 +6,17 @@ use mathlib.Core.List.{List, [], _∷_}
 use mathlib.Core.Option.{none}
 use lib.Dec.{leb}
 use lib.ListN.{length, drop, getD}
-use Rattle.segment.specs.declared.header.Layout.{Layout}
+use Rattle.opening.specs.declared.header.Layout.{Layout}
 use Rattle.segment.specs.declared.metadata.Checked.{Checked}
 use Rattle.segment.specs.Refusals.{too-large, no-room}
 use Rattle.segment.specs.Results.{Result, ok, _>>=_, check}
 use Rattle.segment.specs.Records.{Document, Segment}
 use Rattle.segment.specs.Postings.{decode}
-use Rattle.segment.specs.Layouts.{Ordered, cut}
+use Rattle.opening.specs.Layouts.{Ordered, cut}
 use Rattle.segment.specs.Held.{held-documents}
 use Rattle.segment.specs.Spots.{Spot, held-postings}
 use Rattle.segment.specs.Walks.{checked}
-use Rattle.segment.specs.Opened.{Is-open}
+use Rattle.opening.specs.Opened.{Is-open}
 use Rattle.reading.specs.declared.postings.Postings.{Postings}
 use Rattle.reading.specs.declared.replies.Counted.{Counted}
 use Rattle.reading.specs.declared.term.TermList.{TermList}

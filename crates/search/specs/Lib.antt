@@ -6,7 +6,7 @@ pub mod Questions
 pub mod Asked
 -- What is claimed of it:
 pub mod Claims
--- What the code's steps stand for:
+-- What the code's steps stand for (`rule-of` in Standing: the code's question as a rule):
 pub mod Resolved
 pub mod Standing
 pub mod Walked

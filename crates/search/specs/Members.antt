@@ -1,13 +1,6 @@
--- Lists: what stands in one, and which elements pass a test.
-use mathlib.Core.Path.{_≡_}
+-- Lists: which elements pass a test.
 use mathlib.Core.Bool.{Bool, true, false, cond, _&&_, _||_}
 use mathlib.Core.List.{List, [], _∷_, _++_}
-use mathlib.Core.Logic.{_⊎_}
-
-infix 20 _∈_
-abbrev pub _∈_ : {A : Type 0} → A → List A → Type 0
-x ∈ [] = ⊥
-x ∈ (y ∷ ys) = (x ≡ y) ⊎ (x ∈ ys)
 
 module _ {A : Type 0} where
   -- every element passes

@@ -34,7 +34,7 @@ Meets (Ordered w) own ns = Has-ordered w own ns
 Meets (Unordered w) own ns = Has-unordered w own ns
 
 -- a phrase of no sounds, a near question of under two, or a window of 0 decodes nothing and gives none
-abbrev pub idle : Rule → (sounds : ℕ) → Bool
+abbrev pub idle : Rule → (how-many : ℕ) → Bool
 idle Phrase n = eqb n 0
 idle (Ordered w) n = ltb n 2 || eqb w 0
 idle (Unordered w) n = ltb n 2 || eqb w 0

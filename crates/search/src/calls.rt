@@ -6,15 +6,15 @@ use crate::question::check_question;
 use crate::slots::Slots;
 use crate::walk::walk;
 use codec::utf8::is_utf8;
+use opening::header::Layout;
+use opening::open_segment::Opening;
+use opening::open_segment::open_layout;
 use reading::postings::Postings;
 use reading::replies::Counted;
 use reading::term::find_term;
 use segment::fixed::long;
-use segment::header::Layout;
 use segment::ids::DocId;
 use segment::metadata::Checked;
-use segment::opening::Opening;
-use segment::opening::open_layout;
 use segment::refusal::INVALID_UTF8;
 use segment::refusal::LIMIT;
 use segment::refusal::NO_ROOM;
@@ -125,14 +125,16 @@ fn search_text(bytes: &[u8], ask: Ask, text: &[u8], ends: &[u32], ids: &mut [u32
     answer_slots(bytes, at, ask, resolve(bytes, at, text, ends), ids)
 }
 
-// The documents in which the names stand on consecutive positions: how many, and their ids, rising.
+// The documents in which the names stand on consecutive positions: how many, and their ids, rising; or the first refusal in document 01's
+// order. No names: none.
 pub fn phrase_match_strs(bytes: &[u8], text: &[u8], ends: &[u32], ids: &mut [u32]) -> Counted
     ensures { λ r. ⌜ Text-answered (now (bytes .entry)) Ask.Phrase (now (text .entry)) (now (ends .entry)) (now (ids .entry)) r (now (ids .exit)) ⌝ }
 {
     search_text(bytes, Ask::Phrase, text, ends, ids)
 }
 
-// The documents in which the names stand within a window, in the order named or in any: how many, and their ids, rising.
+// The documents in which the names stand within a window, in the order named or in any: how many, and their ids, rising; or the first
+// refusal in document 01's order. Under two names or a window of 0: none.
 pub fn near_match_terms_strs(
     bytes: &[u8],
     text: &[u8],
@@ -170,7 +172,8 @@ fn check_two(a: &[u8], b: &[u8]) -> Checked
     Checked::Passed
 }
 
-// The documents in which two names stand within a window, in any order: how many, and their ids, rising.
+// The documents in which two names stand within a window, in any order: how many, and their ids, rising; or the first refusal in document
+// 01's order. A window of 0: none.
 pub fn near_match(bytes: &[u8], a: &[u8], b: &[u8], window: u32, ids: &mut [u32]) -> Counted
     ensures { λ r. ⌜ Two-answered (now (bytes .entry)) window (now (a .entry)) (now (b .entry)) (now (ids .entry)) r (now (ids .exit)) ⌝ }
 {

@@ -1,9 +1,9 @@
 // The names of a question resolved in an open segment, and the list of every different term decoded, in the order named.
 use crate::slots::Slots;
+use opening::header::Layout;
 use reading::term::decode_postings;
 use reading::term::find_term;
 use segment::fixed::long;
-use segment::header::Layout;
 use segment::lists::Tally;
 use segment::metadata::Checked;
 ghost use mathlib.Core.Path.{_≡_};

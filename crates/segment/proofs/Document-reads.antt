@@ -9,14 +9,14 @@ use lib.ListN.{drop}
 use borrow.Author.Tests.{lt-ltb, le-ltb}
 use Rattle.codec.specs.declared.varint.Number.{Number}
 use Rattle.codec.specs.declared.varint.Decoded.the-variants.{Value, Refused}
-use Rattle.codec.specs.Leb128.{Leb, stored}
+use Rattle.codec.specs.Leb128.{stored}
 use Rattle.codec.specs.Reading.{decodedAt}
 use Rattle.segment.specs.Refusals.{document-metadata, invalid-varint, doc-id-overflow, invalid-layout, non-increasing-document-id}
 use Rattle.segment.specs.Results.{ok, refuse, check}
-use Rattle.segment.specs.Records.{Document, Read, number, number-or, at-gap}
+use Rattle.segment.specs.Records.{Document, Read, number, at-gap}
 use Rattle.segment.specs.Metadata.{document, read-document}
 use Rattle.segment.proofs.Binds.{carried, carried-ok, carried-bind, carried-check}
-use Rattle.segment.proofs.Gaps.{number-refused, number-value, number-taken}
+use Rattle.segment.proofs.Gaps.{number-refused, number-value, number-taken, carried-number}
 
 module _ (place : ℕ) (s : List ℕ) (at : ℕ) where
   pub document-none : (previous : Option ℕ) → decodedAt s at ≡ Refused
@@ -73,10 +73,6 @@ module _ (place : ℕ) (s : List ℕ) (at : ℕ) where
               )
 
 -- the place of a document shows in refusals alone
-carried-number : (section i j : ℕ) (bytes : List ℕ) (o : Option Leb) → carried (number-or section i bytes o) ≡ carried (number-or section j bytes o)
-carried-number section i j bytes none = refl
-carried-number section i j bytes (some r) = refl
-
 pub any-place : (i j : ℕ) (previous : Option ℕ) (bytes : List ℕ) → carried (read-document i previous bytes) ≡ carried (read-document j previous bytes)
 unfolding read-document
 any-place i j previous bytes =

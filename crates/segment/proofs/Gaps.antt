@@ -23,7 +23,7 @@ use Rattle.segment.specs.Results.{ok, refuse}
 use Rattle.segment.specs.Records.{Read, number, number-or, at-gap, rises}
 use Rattle.segment.specs.Postings.{read-value}
 use Rattle.segment.specs.Walks.{past, skipped}
-use Rattle.segment.proofs.Binds.{refuse-ok, ok-same, bind-gives, both-gives}
+use Rattle.segment.proofs.Binds.{refuse-ok, ok-same, bind-gives, both-gives, carried}
 
 -- a number takes no more bytes than there are
 below-fits : (b m : ℕ) (o : Option Leb) (t : Bool) (r : Leb) → cond t (some (record { value = b; size = 1 })) (below b o) ≡ some r
@@ -41,6 +41,11 @@ stored-fits : (bytes : List ℕ) (r : Leb) → stored bytes ≡ some r → (1 �
 stored-fits bytes r e =
     let a = accepted-exactly bytes (r .value) (r .size) .0 e in
     (size-pos bytes r (a .0), size-fits bytes r (a .0), a .2)
+
+-- the index of a number shows in its refusal alone
+pub carried-number : (section i j : ℕ) (bytes : List ℕ) (o : Option Leb) → carried (number-or section i bytes o) ≡ carried (number-or section j bytes o)
+carried-number section i j bytes none = refl
+carried-number section i j bytes (some r) = refl
 
 -- where a number was read: below 2^32, of at least one byte, and inside the slice
 pub record Taken (s : List ℕ) (at : ℕ) (n : Number) : Type 0 where

@@ -1,9 +1,11 @@
 -- Laws that belong to no one function, lowest first.
 pub mod Fields
 pub mod Strings
+pub mod Elements
 pub mod Ends
-pub mod Sections
+pub mod Shapes
 pub mod Binds
+pub mod Accepted
 pub mod Gaps
 pub mod Document-reads
 pub mod Document-cursors
@@ -14,8 +16,3 @@ pub mod Positions
 pub mod Posting-reads
 pub mod Heads
 pub mod Tallies
-pub mod Accepted
-pub mod Checks
-pub mod Entries
-pub mod Lookup
-pub mod Openings

@@ -1,7 +1,8 @@
--- Byte strings: the same is equal, the byte order is the order in words and strict and total, and both a byte at a time.
+-- Byte strings: the same is equal, the byte order is the order in words and strict and total, both a byte at a time, and what an order
+-- that was answered says.
 -- Assumes nothing.
 use mathlib.Core.Path.{_≡_, refl, sym, ap, ap₂, _∙_}
-use mathlib.Core.Bool.{Bool, true, false, _&&_, _||_}
+use mathlib.Core.Bool.{Bool, true, false, cond, _&&_, _||_}
 use mathlib.Core.List.{List, [], _∷_, _++_}
 use mathlib.Core.Logic.{_⊎_, inl, inr, ⊎-elim, _↔_}
 use Prim.Native.Nat.{ℕ, _+_, _≤_, _<_}
@@ -15,6 +16,7 @@ use Rattle.segment.specs.declared.names.Order.{Order}
 use Rattle.segment.specs.declared.names.Order.the-variants.{Less, Equal, Greater}
 use Rattle.segment.specs.Names.{same, precedes, Before}
 use Rattle.segment.specs.Orders.{order}
+use Rattle.segment.specs.Claims.{Same-agrees, Order-agrees}
 
 -- ---- the same
 
@@ -31,7 +33,7 @@ same-eq (x ∷ a) [] e = true-false (sym e)
 same-eq (x ∷ a) (y ∷ b) e =
     ap₂ _∷_ (eqb-true x y (and-left (eqb x y) (same a b) e)) (same-eq a b (and-right (eqb x y) (same a b) e))
 
-pub same-is : (a b : List ℕ) → (same a b ≡ true) ↔ (a ≡ b)
+pub same-is : Same-agrees
 same-is a b = (same-eq a b, λ e. rw e (same-refl b))
 
 pub apart : (a b : List ℕ) → (a ≡ b → ⊥) → same a b ≡ false
@@ -98,7 +100,7 @@ in-words (x ∷ a) (y ∷ b) e =
     (λ (h : (x ≡ y) × (precedes a b ≡ true)). in-front x y a b (h .0) (in-words a b (h .1)))
     (by-byte x y (precedes a b) e)
 
-pub precedes-is : (a b : List ℕ) → (precedes a b ≡ true) ↔ Before a b
+pub precedes-is : Order-agrees
 precedes-is a b = (in-words a b, from-words a b)
 
 -- ---- the order is strict and total
@@ -183,3 +185,26 @@ module _ (a b : List ℕ) (i : ℕ) {whole : Order} (inv : order (drop i a) (dro
   unfolding precedes same
   order-next h k l =
       rw (drop-step a i 0 h, drop-step b i 0 k, le-ltb (getD a i 0) (getD b i 0) (omega arith), eq-eqb (getD a i 0) (getD b i 0) l) at inv
+
+-- ---- an order that was answered
+
+-- what an order says of the two tests that it is made of
+abbrev Told : Bool → Bool → Order → Type 0
+Told before equal Less = before ≡ true
+Told before equal Equal = (before ≡ false) × (equal ≡ true)
+Told before equal Greater = (before ≡ false) × (equal ≡ false)
+
+told : (before equal : Bool) → Told before equal (cond before Less (cond equal Equal Greater))
+told true equal = refl
+told false true = (refl, refl)
+told false false = (refl, refl)
+
+module _ (a b : List ℕ) where
+  pub less-is : order a b ≡ Less → precedes a b ≡ true
+  less-is e = rw e at (told (precedes a b) (same a b))
+
+  pub equal-is : order a b ≡ Equal → (precedes a b ≡ false) × (same a b ≡ true)
+  equal-is e = rw e at (told (precedes a b) (same a b))
+
+  pub greater-is : order a b ≡ Greater → (precedes a b ≡ false) × (same a b ≡ false)
+  greater-is e = rw e at (told (precedes a b) (same a b))

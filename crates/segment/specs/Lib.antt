@@ -8,11 +8,11 @@ pub mod Directory
 pub mod Postings
 pub mod Opening
 pub mod Texts
+pub mod Elements
+-- What is claimed of it:
+pub mod Claims
 -- What the code's answers and cursors stand for:
 pub mod Orders
-pub mod Layouts
 pub mod Walks
 pub mod Held
 pub mod Spots
-pub mod Terms
-pub mod Opened

@@ -1,9 +1,9 @@
 -- What a segment holds.
-use Prim.Native.Nat.{ℕ, suc, _+_, _-_, _*_}
-use mathlib.Core.Bool.{Bool, true, false, cond}
+use Prim.Native.Nat.{ℕ, _+_, _-_, _*_}
+use mathlib.Core.Bool.{Bool, true}
 use mathlib.Core.List.{List, [], _∷_}
 use mathlib.Core.Option.{Option, none, some}
-use lib.Dec.{ltb, eqb}
+use lib.Dec.{ltb}
 use lib.ListN.{take, drop}
 use Rattle.codec.specs.Leb128.{Leb, stored}
 use Rattle.segment.specs.Refusals.{invalid-varint}
@@ -35,6 +35,12 @@ pub record Entry : Type 0 where
 pub record Segment : Type 0 where
   pub documents : List Document
   pub entries : List Entry
+
+-- ---- parts of the bytes
+
+-- the bytes from a place up to another
+abbrev pub between : ℕ → ℕ → List ℕ → List ℕ
+between from to bytes = take (to - from) (drop from bytes)
 
 -- ---- numbers of fixed width, little-endian
 

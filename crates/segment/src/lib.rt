@@ -3,22 +3,17 @@
 //   ids        document ids and token positions, two types that do not mix
 //   fixed      numbers of fixed width, little-endian
 //   names      byte strings: the same, the order
-//   header     the header, the four sections' ranges
 //   metadata   documents: checked, and a cursor over them
-//   directory  terms: checked, and found by name
 //   values     gaps that rise: what posting ids and positions are stored as
-//   lists      posting lists: checked, and cursors over postings and positions
-//   opening    a segment opened
+//   lists      posting lists: checked
 //   texts      several names in one text
-// What each is to compute stands in specs/, which is the place to start.
-pub mod directory;
+// What each is to compute stands in specs/, which is the place to start; the whole format is defined there. The header and the directory
+// are read by crate opening.
 pub mod fixed;
-pub mod header;
 pub mod ids;
 pub mod lists;
 pub mod metadata;
 pub mod names;
-pub mod opening;
 pub mod refusal;
 pub mod texts;
 pub mod values;

@@ -28,6 +28,7 @@ pub enum Order {
     Greater,
 }
 
+// Which of two names comes first in byte order.
 pub fn compare(a: &[u8], b: &[u8]) -> Order
     ensures { λ r. ⌜ r ≡ order (now (a .entry)) (now (b .entry)) ⌝ }
 {

@@ -16,9 +16,10 @@ use Rattle.segment.specs.Results.{ok}
 use Rattle.segment.specs.Records.{Document, Term}
 use Rattle.segment.specs.Directory.{follows, read-list-range, read-entry, read-entries, directory}
 use Rattle.writer.specs.Bytes.{list-bytes, entry-bytes, directory-bytes, name-bytes, lists-bytes}
-use Rattle.writer.specs.Acceptance.{_∈_, Term-fine}
-use Rattle.writer.proofs.Rising.{After-name, name-head, name-tail}
-use Rattle.writer.proofs.Accepted.{names-of}
+use Rattle.checking.specs.Acceptance.{Term-fine}
+use Rattle.segment.specs.Elements.{_∈_}
+use Rattle.checking.proofs.Rising.{After-name, name-head, name-tail}
+use Rattle.checking.proofs.Accepted.{names-of}
 use Rattle.writer.proofs.Checksums.{crc-lt}
 use Rattle.writer.proofs.Front.{part-between}
 use Rattle.writer.proofs.Widths.{fixed-back}

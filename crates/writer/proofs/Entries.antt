@@ -7,15 +7,16 @@ use Prim.Native.Nat.{ℕ, _+_, _-_, _*_, _≤_, _<_}
 use native.Mathlib.Omega.{arith}
 use lib.ListN.{length, length-append}
 use lib.Seq.{sets, length-sets}
-use Rattle.segment.specs.Layouts.{between}
-use Rattle.writer.specs.declared.walk.Walk.{Walk}
-use Rattle.writer.specs.Given.{Lists, given}
+use Rattle.codec.proofs.Sets.{sets-append}
+use Rattle.segment.specs.Records.{between}
+use Rattle.checking.specs.declared.walk.Walk.{Walk}
+use Rattle.checking.specs.Given.{Lists, given}
 use Rattle.writer.specs.Bytes.{postings-bytes, entry-bytes, directory-bytes, lists-bytes}
-use Rattle.writer.specs.Flat.{terms-from, start-walk}
+use Rattle.checking.specs.Flat.{terms-from, start-walk}
 use Rattle.writer.specs.Stores.{Stored, entry-of-list, Entry-room, Terms-room, Terms-stored}
-use Rattle.writer.proofs.Accepts.{small-gives}
-use Rattle.writer.proofs.Walking.{end-of, count-of, name-at, postings-at, next-in, Walk-fits, terms-start, walk-starts, walk-inside, name-length, postings-count, walk-next, terms-step, terms-end}
-use Rattle.writer.proofs.Sets.{sets-append, sets-comm, between-stored}
+use Rattle.checking.proofs.Passing.{small-gives}
+use Rattle.checking.proofs.Walking.{end-of, count-of, name-at, postings-at, next-in, Walk-fits, terms-start, walk-starts, walk-inside, name-length, postings-count, walk-next, terms-step, terms-end}
+use Rattle.writer.proofs.Sets.{sets-comm, between-stored}
 use Rattle.writer.proofs.Left.{lists-next}
 
 -- one more of a run, then one more of a run that lies before it

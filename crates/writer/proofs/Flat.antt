@@ -11,12 +11,12 @@ use Rattle.segment.specs.Records.{Posting, Term}
 use Rattle.segment.specs.Metadata.{document}
 use Rattle.segment.specs.Postings.{total-positions}
 use Rattle.segment.specs.Texts.{ends-fit, names}
-use Rattle.writer.specs.Given.{Lists, given, laid-flat, parts, joined, total, posting, term, all-postings, ends-from}
+use Rattle.checking.specs.Given.{Lists, given, laid-flat, parts, joined, total, posting, term, all-postings, ends-from}
 use Rattle.writer.specs.Bytes.{name-bytes}
-use Rattle.writer.specs.Acceptance.{Shape}
+use Rattle.checking.specs.Acceptance.{Shape}
 use Rattle.writer.specs.Back.{all-position-counts}
-use Rattle.writer.proofs.Shapes.{shape-is}
-use Rattle.writer.proofs.Parts.{lefts, rights, paired-right, parts-count, parts-joined, parts-lengths, names-count, names-joined, names-ends}
+use Rattle.segment.proofs.Shapes.{shape-is, names-count}
+use Rattle.checking.proofs.Parts.{lefts, rights, paired-right, parts-count, parts-joined, parts-lengths, names-joined, names-ends}
 
 module _ (l : Lists) (s : Shape l) where
   abbrev cut : List (List ℕ)

@@ -9,14 +9,13 @@ use native.Mathlib.Omega.{arith}
 use lib.ListN.{length, drop, getD}
 use Rattle.codec.specs.Leb128.{encoded}
 use Rattle.codec.proofs.Loops.{drop-step, drop-end}
-use Rattle.segment.specs.Records.{Document, Posting}
-use Rattle.segment.specs.Layouts.{between}
+use Rattle.segment.specs.Records.{Document, Posting, between}
 use Rattle.segment.specs.Metadata.{document}
-use Rattle.writer.specs.declared.walk.Walk.{Walk}
-use Rattle.writer.specs.Given.{Lists, paired}
+use Rattle.checking.specs.declared.walk.Walk.{Walk}
+use Rattle.checking.specs.Given.{Lists, paired}
 use Rattle.writer.specs.Bytes.{metadata-bytes, position-bytes, posting-bytes, postings-bytes, lists-bytes}
-use Rattle.writer.specs.Flat.{postings-in, terms-from, Checkable}
-use Rattle.writer.proofs.Walking.{part-length, postings-step, postings-at, next-in, Walk-fits, terms-step, terms-end}
+use Rattle.checking.specs.Flat.{postings-in, terms-from, Checkable}
+use Rattle.checking.proofs.Walking.{part-length, postings-step, postings-at, next-in, Walk-fits, terms-step, terms-end}
 
 -- ---- document metadata
 

@@ -7,14 +7,13 @@ use Prim.Native.Nat.{ℕ, _+_, _*_, _≤_}
 use native.Mathlib.Omega.{arith}
 use lib.ListN.{length, take, drop, length-append, length-map, length-take, length-drop, take-append-drop}
 use Rattle.codec.proofs.Shortest.{encoded-size}
-use Rattle.segment.specs.Layouts.{between}
-use Rattle.segment.specs.Records.{Document, Posting, Term}
+use Rattle.segment.specs.Records.{Document, Posting, Term, between}
 use Rattle.segment.specs.Metadata.{document}
 use Rattle.segment.specs.Postings.{total-positions}
-use Rattle.writer.specs.Given.{Lists, given, laid-flat, paired, joined}
+use Rattle.checking.specs.Given.{Lists, given, laid-flat, paired, joined}
 use Rattle.writer.specs.Bytes.{gap, metadata-bytes, position-bytes, posting-bytes, postings-bytes, lists-bytes}
-use Rattle.writer.specs.Flat.{postings-in}
-use Rattle.writer.specs.Acceptance.{Small, Shape}
+use Rattle.checking.specs.Flat.{postings-in}
+use Rattle.checking.specs.Acceptance.{Small, Shape}
 use Rattle.writer.specs.Back.{all-position-counts}
 use Rattle.writer.proofs.Flat.{flat-again, counts-add-up}
 

@@ -1,16 +1,6 @@
 -- Laws that belong to no one function, lowest first.
-pub mod Inversions
-pub mod Shapes
-pub mod Members
-pub mod Rising
-pub mod Known
-pub mod Searching
-pub mod Accepted
 pub mod Accepts
-pub mod Parts
 pub mod Flat
-pub mod Walking
-pub mod Checking
 pub mod Checksums
 pub mod Front
 pub mod Widths

@@ -14,9 +14,9 @@ use Rattle.segment.specs.Results.{ok}
 use Rattle.segment.specs.Records.{Document, rises}
 use Rattle.segment.specs.Metadata.{read-document, read-documents, metadata}
 use Rattle.writer.specs.Bytes.{gap, metadata-bytes}
-use Rattle.writer.specs.Acceptance.{_∈_, Rising}
-use Rattle.writer.proofs.Rising.{After, after-head, after-tail}
-use Rattle.writer.proofs.Accepted.{ids}
+use Rattle.segment.specs.Elements.{_∈_, Rising}
+use Rattle.checking.proofs.Rising.{After, after-head, after-tail}
+use Rattle.checking.proofs.Accepted.{ids}
 use Rattle.writer.proofs.Front.{number-back}
 use Rattle.writer.proofs.Widths.{gap-back, gap-lt}
 

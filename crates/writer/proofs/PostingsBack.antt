@@ -18,11 +18,12 @@ use Rattle.segment.specs.Records.{Document, Posting, Term, Entry, rises}
 use Rattle.segment.specs.Metadata.{length-of}
 use Rattle.segment.specs.Postings.{read-value, read-position, read-positions, read-head, read-posting, read-postings, all-postings, decode}
 use Rattle.writer.specs.Bytes.{gap, position-bytes, posting-bytes, postings-bytes, list-bytes}
-use Rattle.writer.specs.Acceptance.{_∈_, Rising, Posting-fine, Term-fine}
+use Rattle.checking.specs.Acceptance.{Posting-fine, Term-fine}
+use Rattle.segment.specs.Elements.{_∈_, Rising}
 use Rattle.writer.specs.Back.{decode-all}
-use Rattle.writer.proofs.Rising.{After, after-head, after-tail}
-use Rattle.writer.proofs.Known.{known-from}
-use Rattle.writer.proofs.Accepted.{ids, docs}
+use Rattle.checking.proofs.Rising.{After, after-head, after-tail}
+use Rattle.checking.proofs.Known.{known-from}
+use Rattle.checking.proofs.Accepted.{ids, docs}
 use Rattle.writer.proofs.Front.{number-back}
 use Rattle.writer.proofs.Widths.{gap-back, gap-lt}
 use Rattle.writer.proofs.MetadataBack.{Numbers-fit}

@@ -1,19 +1,22 @@
 -- What is written opens and decodes to what was handed in; laid flat it is the eight lists, and the counts add up.
 -- Assumes nothing.
 use mathlib.Core.Path.{_≡_, sym, ap, _∙_, subst}
-use mathlib.Core.List.{List, map}
+use mathlib.Core.List.{List, [], _∷_, map}
+use mathlib.Core.Logic.{inl, inr}
 use mathlib.Core.Option.{none}
-use Prim.Native.Nat.{ℕ, _^_, _≤_, _<_}
+use Prim.Native.Nat.{ℕ, suc, _^_, _≤_, _<_}
 use native.Mathlib.Omega.{arith}
 use lib.ListN.{length, length-map}
 use Rattle.segment.specs.Results.{ok}
 use Rattle.segment.specs.Records.{Document, Posting, Term}
 use Rattle.segment.specs.Opening.{open-segment}
-use Rattle.writer.specs.Given.{Lists, given, laid-flat, joined}
+use Rattle.checking.specs.Given.{Lists, given, laid-flat, joined}
 use Rattle.writer.specs.Bytes.{segment-bytes, directory-bytes, name-bytes, metadata-bytes, lists-bytes}
-use Rattle.writer.specs.Acceptance.{_∈_, No-refusal}
+use Rattle.checking.specs.Acceptance.{Lists-fine}
+use Rattle.segment.specs.Elements.{_∈_}
+use Rattle.segment.proofs.Elements.{map-from}
 use Rattle.writer.specs.Back.{decode-segment, Below, Typed, Reads-back}
-use Rattle.writer.proofs.Members.{in-map, in-joined, member-below}
+use Rattle.checking.proofs.Members.{in-joined}
 use Rattle.writer.proofs.Accepts.{accepted-gives, accepted-is}
 use Rattle.writer.proofs.Flat.{flat-again, text-is, counts-add-up}
 use Rattle.writer.proofs.Lengths.{metadata-size, lists-small}
@@ -22,16 +25,22 @@ use Rattle.writer.proofs.PostingsBack.{Few, entry-for, lists-back}
 use Rattle.writer.proofs.DirectoryBack.{directory-length, directory-back}
 use Rattle.writer.proofs.OpeningBack.{opens}
 
+-- a bound of every place bounds every member
+member-below : (n : ℕ) (xs : List ℕ) → Below n xs → (x : ℕ) → x ∈ xs → x < n
+member-below n [] h x m = absurd m
+member-below n (y ∷ ys) h x (inl e) = omega (arith, h 0)
+member-below n (y ∷ ys) h x (inr m) = member-below n ys (λ i. h (suc i)) x m
+
 -- a number that is taken of each member, where the numbers taken are a list with a bound
 taken-below : {A : Type 0} (f : A → ℕ) (xs : List A) (ys : List ℕ) → map f xs ≡ ys → {n : ℕ} → Below n ys → (x : A) → x ∈ xs → f x < n
-taken-below f xs ys e {n} h x m = member-below n ys h (f x) (subst (λ (l : List ℕ). f x ∈ l) e (in-map f xs x m))
+taken-below f xs ys e {n} h x m = member-below n ys h (f x) (subst (λ (l : List ℕ). f x ∈ l) e (map-from f xs x m))
 
 taken-count : {A : Type 0} (f : A → ℕ) (xs : List A) (ys : List ℕ) → map f xs ≡ ys → length xs ≡ length ys
 taken-count f xs ys e = sym (length-map xs f) ∙ ap length e
 
 -- ---- what was accepted fits the format's numbers
 
-module _ (l : Lists) (room : ℕ) (typed : Typed l) (n : No-refusal l room) where
+module _ (l : Lists) (typed : Typed l) (n : Lists-fine l) where
   abbrev ds : List Document
   ds = given l .documents
 
@@ -70,7 +79,7 @@ module _ (l : Lists) (room : ℕ) (typed : Typed l) (n : No-refusal l room) wher
   pub few-positions : (t : Term) → t ∈ ts → Few t
   few-positions t m p k =
       taken-below (λ p. length (p .positions)) ps (l .position-counts) position-counts-are (typed .position-counts) p
-      (in-joined (map (λ t. t .postings) ts) (t .postings) p (in-map (λ t. t .postings) ts t m) k)
+      (in-joined (map (λ t. t .postings) ts) (t .postings) p (map-from (λ t. t .postings) ts t m) k)
 
   short-names : length (name-bytes ts) ≤ 16777216
   short-names = rw (text-is l (n .shape)) (n .small .text)
@@ -109,9 +118,9 @@ module _ (l : Lists) (room : ℕ) (typed : Typed l) (n : No-refusal l room) wher
 
 pub reads-back : Reads-back
 reads-back l room bytes typed e =
-    let n = accepted-gives l room e in
+    let n = accepted-gives l room e .lists in
     record {
-      back = ap decode-segment (sym (accepted-is l room e)) ∙ decoded l room typed n;
+      back = ap decode-segment (sym (accepted-is l room e)) ∙ decoded l typed n;
       flat = flat-again l (n .shape);
       counted = counts-add-up l (n .shape);
     }

@@ -1,21 +1,14 @@
--- Stores of a run of bytes: one behind another, at places apart, and read again.
+-- Stores of a run of bytes at places apart, and read again.
 -- Assumes nothing.
-use mathlib.Core.Path.{_≡_, refl, sym, ap, _∙_}
+use mathlib.Core.Path.{_≡_, refl, ap, _∙_}
 use mathlib.Core.List.{List, [], _∷_, _++_, append-assoc}
 use Prim.Native.Nat.{ℕ, suc, _+_, _-_, _≤_, _<_}
-use native.Mathlib.Nat.{add-zero}
 use native.Mathlib.Omega.{arith}
 use lib.ListN.{length, take, drop, set}
 use lib.Seq.{sets, sets-eq, set-comm, take-set-le, drop-set-lt, drop-set-add, drop-at, take-at, length-take-le}
-use Rattle.segment.specs.Layouts.{between}
+use Rattle.segment.specs.Records.{between}
 
 module _ {A : Type 0} where
-  pub sets-append : (l : List A) (i : ℕ) (xs ys : List A) → sets l i (xs ++ ys) ≡ sets (sets l i xs) (i + length xs) ys
-  sets-append l i [] ys = ap (λ (k : ℕ). sets l k ys) (sym (add-zero i))
-  sets-append l i (x ∷ xs) ys =
-      let e : suc i + length xs ≡ i + suc (length xs) = omega arith in
-      sets-append (set l i x) (suc i) xs ys ∙ ap (λ (k : ℕ). sets (sets (set l i x) (suc i) xs) k ys) e
-
   sets-set : (l : List A) (i : ℕ) (x : A) (j : ℕ) (ys : List A) → i < j → sets (set l i x) j ys ≡ set (sets l j ys) i x
   sets-set l i x j [] h = refl
   sets-set l i x j (y ∷ ys) h =
@@ -44,11 +37,6 @@ module _ {A : Type 0} where
       ap (λ (k : ℕ). drop n (sets (set l (n + i) x) k xs)) e
       ∙ drop-sets-add n (set l (n + i) x) (suc i) xs
       ∙ ap (λ (r : List A). sets r (suc i) xs) (drop-set-add n l i x)
-
-  pub sets-front : (l xs : List A) → length xs ≤ length l → sets l 0 xs ≡ xs ++ drop (length xs) l
-  sets-front l xs h =
-      let e : 0 + length xs ≡ length xs = omega arith in
-      sets-eq xs l 0 (omega arith) ∙ ap (λ (k : ℕ). xs ++ drop k l) e
 
 -- ---- read between two places
 

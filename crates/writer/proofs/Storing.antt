@@ -9,13 +9,13 @@ use lib.Seq.{sets, sets-eq, length-sets}
 use Rattle.codec.specs.Leb128.{encoded}
 use Rattle.codec.specs.Reading.{Encoded}
 use Rattle.codec.specs.Crc32.{crc32Of}
-use Rattle.segment.specs.Layouts.{between}
+use Rattle.segment.specs.Records.{between}
 use Rattle.segment.specs.Opening.{magic}
 use Rattle.writer.specs.declared.write.Places.{Places}
 use Rattle.writer.specs.Bytes.{fixed, header-bytes}
 use Rattle.writer.specs.Stores.{Stored, four, entry-of-list, Header-room, Header-stored}
-use Rattle.writer.proofs.Sets.{sets-append}
-use Rattle.writer.proofs.Walking.{part-length}
+use Rattle.codec.proofs.Sets.{sets-append}
+use Rattle.checking.proofs.Walking.{part-length}
 
 pub stored-append : {a b l o o′ : List ℕ} {at n n′ : ℕ} → Stored a at l n o → Stored b n o n′ o′ → Stored (a ++ b) at l n′ o′
 stored-append {a} {b} {l} {at = at} s t = record {

@@ -8,26 +8,27 @@ use native.Mathlib.Omega.{arith}
 use borrow.Author.Tests.{le-leb, lt-leb}
 use lib.ListN.{length, drop, length-append}
 use lib.Seq.{sets, length-sets}
-use Rattle.segment.specs.Layouts.{between}
-use Rattle.segment.specs.Records.{Document, Term}
+use Rattle.codec.proofs.Sets.{sets-append, sets-front}
+use Rattle.segment.specs.Records.{Document, Term, between}
 use Rattle.segment.specs.declared.refusal.Refusal.{Refusal}
 use Rattle.segment.specs.declared.metadata.Checked.the-variants as check
 use Rattle.segment.specs.Refusals.{no-room}
 use Rattle.segment.specs.Results.{ok}
 use Rattle.segment.specs.Walks.{checked}
 use Rattle.writer.specs.declared.write.Written.the-variants as written
-use Rattle.writer.specs.Writing.{check-lists, write}
+use Rattle.writer.specs.Writing.{write}
+use Rattle.checking.specs.Checks.{check-lists}
 use Rattle.writer.specs.declared.write.Places.{Places}
-use Rattle.writer.specs.Given.{Lists, given}
+use Rattle.checking.specs.Given.{Lists, given}
 use Rattle.writer.specs.Bytes.{directory-bytes, name-bytes, metadata-bytes, lists-bytes, header-bytes, with-header, segment-bytes}
-use Rattle.writer.specs.Acceptance.{Shape}
+use Rattle.checking.specs.Acceptance.{Shape}
 use Rattle.writer.specs.Stores.{Stored, Terms-stored, Header-stored, Segment-room, Segment-stored, Wrote}
-use Rattle.writer.proofs.Inversions.{passed-ok, refused-is}
-use Rattle.writer.proofs.Accepts.{shaped-gives}
+use Rattle.segment.proofs.Accepted.{passed-ok, refused-is}
+use Rattle.checking.proofs.Passing.{shaped-gives}
 use Rattle.writer.proofs.Flat.{text-is, documents-count, terms-count}
 use Rattle.writer.proofs.DirectoryBack.{directory-length}
 use Rattle.writer.proofs.Storing.{stored-append}
-use Rattle.writer.proofs.Sets.{sets-append, sets-comm, sets-front, between-stored, between-before, between-after}
+use Rattle.writer.proofs.Sets.{sets-comm, between-stored, between-before, between-after}
 
 four-lengths : (a b c d : List ℕ) → length (a ++ (b ++ (c ++ d))) ≡ length a + (length b + (length c + length d))
 four-lengths a b c d = simp length-append
@@ -193,7 +194,7 @@ module _ (l : Lists) (out : List ℕ) where
 
   module _ (passed : check.Passed ≡ checked (check-lists l)) {n : ℕ} (is : n ≡ length (segment-bytes (given l))) where
     r : check-lists l ≡ ok tt
-    r = passed-ok (check-lists l) passed
+    r = passed-ok (check-lists l) passed .1
 
     pub wrote-no-room : length out < n → Wrote l out (written.Refused (no-room 1 n)) out
     unfolding write

@@ -8,7 +8,7 @@ use Rattle.segment.specs.Results.{Result, ok, refuse, _>>=_}
 use Rattle.segment.specs.Records.{Document, Posting, Term, Entry, Segment}
 use Rattle.segment.specs.Postings.{decode, total-positions}
 use Rattle.segment.specs.Opening.{open-segment}
-use Rattle.writer.specs.Given.{Lists, Given, given, laid-flat}
+use Rattle.checking.specs.Given.{Lists, Given, given, laid-flat}
 use Rattle.writer.specs.Writing.{write}
 
 -- every list of the directory decoded, in the directory's order

@@ -7,7 +7,7 @@ use Rattle.codec.specs.Leb128.{encoded}
 use Rattle.codec.specs.Crc32.{crc32Of}
 use Rattle.segment.specs.Records.{Document, Posting, Term}
 use Rattle.segment.specs.Opening.{magic}
-use Rattle.writer.specs.Given.{Given, joined}
+use Rattle.checking.specs.Given.{Given, joined}
 
 -- a number in n bytes, little-endian
 abbrev pub fixed : (n x : ℕ) → List ℕ

@@ -8,11 +8,11 @@ use Rattle.segment.specs.Results.{Result, ok, refuse}
 use Rattle.writer.specs.declared.write.Written.{Written}
 use Rattle.writer.specs.declared.write.Written.the-variants as written
 use mathlib.Core.Option.{none}
-use Rattle.segment.specs.Layouts.{between}
+use Rattle.segment.specs.Records.{between}
 use Rattle.writer.specs.declared.write.Places.{Places}
-use Rattle.writer.specs.Given.{Lists, given}
+use Rattle.checking.specs.Given.{Lists, given}
 use Rattle.writer.specs.Bytes.{fixed, entry-bytes, directory-bytes, lists-bytes, metadata-bytes, header-bytes, segment-bytes}
-use Rattle.writer.specs.Flat.{Checkable}
+use Rattle.checking.specs.Flat.{Checkable}
 use Rattle.writer.specs.Writing.{write}
 
 -- bytes stored from a place on; the answer is the place past them, and all else is as it was

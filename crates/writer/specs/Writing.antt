@@ -3,17 +3,11 @@ use Prim.Native.Nat.{ℕ}
 use mathlib.Core.List.{List}
 use lib.Dec.{leb}
 use lib.ListN.{length}
-use Rattle.segment.specs.Refusals.{too-large, list-shape, no-room}
+use Rattle.segment.specs.Refusals.{no-room}
 use Rattle.segment.specs.Results.{Result, ok, refuse, _>>=_, check}
-use Rattle.writer.specs.Given.{Lists, given}
-use Rattle.writer.specs.Checks.{small, shaped, check-given}
+use Rattle.checking.specs.Given.{Lists, given}
+use Rattle.checking.specs.Checks.{check-lists}
 use Rattle.writer.specs.Bytes.{segment-bytes}
-
-unfoldable pub check-lists : Lists → Result (Unit {0})
-check-lists l = do
-  _ ← check (small l) too-large
-  _ ← check (shaped l) list-shape
-  check-given (given l)
 
 unfoldable pub write : (l : Lists) (room : ℕ) → Result (List ℕ)
 write l room = do

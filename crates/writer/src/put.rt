@@ -7,9 +7,9 @@ ghost use mathlib.Core.Option.{none};
 ghost use Prim.Native.Nat.{_+_, _≤_};
 ghost use lib.ListN.{length};
 ghost use Rattle.segment.specs.Metadata.{document};
-ghost use Rattle.writer.specs.Given.{paired, total};
+ghost use Rattle.checking.specs.Given.{paired, total};
 ghost use Rattle.writer.specs.Bytes.{fixed, metadata-bytes, position-bytes, postings-bytes};
-ghost use Rattle.writer.specs.Flat.{postings-in};
+ghost use Rattle.checking.specs.Flat.{postings-in};
 ghost use Rattle.writer.specs.Stores.{Stored, four};
 
 // A u32, little-endian.

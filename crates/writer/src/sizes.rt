@@ -1,5 +1,5 @@
 // How many bytes the metadata and the posting lists take: the size pass.
-use crate::walk::Walk;
+use checking::walk::Walk;
 use codec::varint::encoded_len;
 use segment::fixed::long;
 ghost use mathlib.Core.Path.{_≡_};
@@ -7,9 +7,9 @@ ghost use mathlib.Core.Option.{none};
 ghost use Prim.Native.Nat.{_-_, _≤_};
 ghost use lib.ListN.{length};
 ghost use Rattle.segment.specs.Metadata.{document};
-ghost use Rattle.writer.specs.Given.{paired, total};
+ghost use Rattle.checking.specs.Given.{paired, total};
 ghost use Rattle.writer.specs.Bytes.{metadata-bytes, position-bytes, postings-bytes, lists-bytes};
-ghost use Rattle.writer.specs.Flat.{lists, postings-in, terms-from, start-walk, Checkable};
+ghost use Rattle.checking.specs.Flat.{lists, postings-in, terms-from, start-walk, Checkable};
 
 // The gap from the value before; what was checked rises, so nothing is cut off.
 pub fn gap_from(previous: u32, value: u32) -> u32

@@ -1,5 +1,4 @@
 // The writer: everything is checked and measured before the first byte is stored.
-use crate::check::check_lists;
 use crate::put::put_bytes;
 use crate::put::put_four_u32;
 use crate::put::put_four_u64;
@@ -9,7 +8,8 @@ use crate::put::put_u32;
 use crate::put::put_u64;
 use crate::sizes::lists_len;
 use crate::sizes::metadata_len;
-use crate::walk::Walk;
+use checking::check::check_lists;
+use checking::walk::Walk;
 use codec::crc32::crc32;
 use segment::fixed::long;
 use segment::metadata::Checked;
@@ -18,7 +18,7 @@ use segment::refusal::Refusal;
 ghost use mathlib.Core.Path.{_≡_};
 ghost use Prim.Native.Nat.{_+_, _≤_};
 ghost use lib.ListN.{length};
-ghost use Rattle.writer.specs.Flat.{lists};
+ghost use Rattle.checking.specs.Flat.{lists};
 ghost use Rattle.writer.specs.Stores.{Stored, Wrote, entry-of-list, Entry-room, Terms-room, Terms-stored, Header-room, Header-stored, Segment-room, Segment-stored};
 
 // The length of the segment, or the refusal.

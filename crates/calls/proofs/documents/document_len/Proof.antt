@@ -1,8 +1,8 @@
 use denote.Ref.{now}
-use Rattle.segment.specs.declared.header.Layout.{Layout}
-use Rattle.segment.specs.declared.opening.Opening.the-variants as opening
-use Rattle.segment.specs.Layouts.{Ordered}
-use Rattle.segment.specs.Opened.{Opens}
+use Rattle.opening.specs.declared.header.Layout.{Layout}
+use Rattle.opening.specs.declared.open_segment.Opening.the-variants as opening
+use Rattle.opening.specs.Layouts.{Ordered}
+use Rattle.opening.specs.Opened.{Opens}
 use Rattle.calls.proofs.Lengths.{len-shut, len-known, len-absent}
 use native.Mathlib.Omega.{arith}
 use borrow.Author.Needs.{needs}

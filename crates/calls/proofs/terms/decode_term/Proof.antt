@@ -1,9 +1,9 @@
 use mathlib.Core.Path.{_≡_, sym, _∙_}
 use denote.Ref.{now}
 use Rattle.segment.specs.declared.metadata.Checked.the-variants.{Passed}
-use Rattle.segment.specs.declared.opening.Opening.the-variants as opening
+use Rattle.opening.specs.declared.open_segment.Opening.the-variants as opening
 use Rattle.segment.specs.Walks.{checked}
-use Rattle.segment.specs.Opened.{Opens}
+use Rattle.opening.specs.Opened.{Opens}
 use Rattle.reading.specs.Lookups.{named}
 use Rattle.reading.specs.declared.term.TermFound.the-variants as found
 use Rattle.reading.specs.Found.{Term-found}

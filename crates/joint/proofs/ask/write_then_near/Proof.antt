@@ -7,8 +7,8 @@ use native.Mathlib.Omega.{arith}
 use lib.Seq.{length-take-le}
 use denote.Ref.{now}
 use borrow.Author.Needs.{needs}
-use Rattle.writer.specs.Given.{Lists}
-use Rattle.writer.specs.Flat.{lists}
+use Rattle.checking.specs.Given.{Lists}
+use Rattle.checking.specs.Flat.{lists}
 use Rattle.writer.specs.Back.{Typed}
 use Rattle.search.specs.Asked.{near-ask}
 use Rattle.joint.specs.Demand.{near-rule}

@@ -3,11 +3,11 @@ use mathlib.Core.List.{List}
 use Prim.Native.Nat.{ℕ, _+_, _*_, _≤_}
 use lib.ListN.{length}
 use denote.Ref.{now}
-use Rattle.segment.specs.declared.header.Layout.{Layout}
-use Rattle.segment.specs.declared.directory.TermEntry.the-variants as place-of
+use Rattle.opening.specs.declared.header.Layout.{Layout}
+use Rattle.opening.specs.declared.directory.TermEntry.the-variants as place-of
 use Rattle.segment.specs.Records.{field}
-use Rattle.segment.specs.Layouts.{cut}
-use Rattle.segment.specs.Terms.{Located}
+use Rattle.opening.specs.Layouts.{cut}
+use Rattle.opening.specs.Terms.{Located}
 use Rattle.reading.specs.Found.{Opened-as}
 use Rattle.reading.proofs.Finding.{entry-inside, list-ends, found-list, found-none}
 use native.Mathlib.Omega.{arith}

@@ -5,9 +5,9 @@ use native.Mathlib.Omega.{arith}
 use lib.ListN.{length}
 use denote.Ref.{now}
 use borrow.Author.Tests.{eq-eqb}
-use Rattle.segment.specs.declared.header.Layout.{Layout}
-use Rattle.segment.specs.declared.opening.Opening.the-variants as opening
-use Rattle.segment.specs.Opened.{Opens}
+use Rattle.opening.specs.declared.header.Layout.{Layout}
+use Rattle.opening.specs.declared.open_segment.Opening.the-variants as opening
+use Rattle.opening.specs.Opened.{Opens}
 use Rattle.search.specs.declared.document.Ask.{Ask}
 use Rattle.search.specs.declared.document.Ask.the-variants as ask
 use Rattle.search.specs.Questions.{search as question, search-two}

@@ -2,9 +2,9 @@ use Prim.Native.Nat.{ℕ, _-_, _≤_}
 use mathlib.Core.Path.{_≡_, sym, ap, _∙_}
 use mathlib.Core.List.{List}
 use mathlib.Core.Option.{none}
-use Rattle.segment.specs.declared.header.Layout.{Layout}
+use Rattle.opening.specs.declared.header.Layout.{Layout}
 use Rattle.segment.specs.Records.{Document}
-use Rattle.segment.specs.Layouts.{cut}
+use Rattle.opening.specs.Layouts.{cut}
 use Rattle.segment.specs.Held.{held-documents}
 use Rattle.segment.specs.Walks.{checked}
 use Rattle.search.specs.Decoded.{decode-from}

@@ -5,8 +5,8 @@ use Prim.Native.Nat.{ℕ, _+_, _-_, _≤_}
 use lib.ListN.{length, drop}
 use denote.Ref.{now}
 use Rattle.segment.specs.Texts.{ends-fit, names}
-use Rattle.segment.specs.Layouts.{between}
-use Rattle.search.proofs.Well-formed.{names-count}
+use Rattle.segment.specs.Records.{between}
+use Rattle.segment.proofs.Shapes.{names-count}
 use Rattle.search.proofs.Text-turns.{name-rises, rest-fits, name-ends, turned, texts-none}
 use Rattle.search.proofs.Resolving.{Partly, partly-none, partly-room, partly-more, partly-all}
 use borrow.Author.Needs.{needs}

@@ -7,7 +7,7 @@ use mathlib.Core.Option.{none}
 use lib.ListN.{length, getD}
 use Rattle.codec.specs.Leb128.{encoded}
 use Rattle.segment.specs.Metadata.{document}
-use Rattle.writer.specs.Given.{paired}
+use Rattle.checking.specs.Given.{paired}
 use Rattle.writer.specs.Bytes.{metadata-bytes}
 use Rattle.writer.proofs.Storing.{To-store, To-store-parts, to-start, to-room, to-number, to-length, to-end}
 use Rattle.writer.proofs.Left.{metadata-left, metadata-whole, metadata-next, metadata-end}

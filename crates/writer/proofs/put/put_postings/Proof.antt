@@ -6,12 +6,12 @@ use mathlib.Core.List.{[], _∷_}
 use mathlib.Core.Option.{none}
 use lib.ListN.{length, drop, getD}
 use Rattle.codec.specs.Leb128.{encoded}
-use Rattle.segment.specs.Layouts.{between}
-use Rattle.writer.specs.Given.{total}
+use Rattle.segment.specs.Records.{between}
+use Rattle.checking.specs.Given.{total}
 use Rattle.writer.specs.Bytes.{position-bytes, postings-bytes}
-use Rattle.writer.specs.Flat.{postings-in}
+use Rattle.checking.specs.Flat.{postings-in}
 use Rattle.writer.proofs.Storing.{To-store, To-store-parts, to-start, to-room, to-next, to-number, to-length, to-end}
-use Rattle.writer.proofs.Parts.{total-step}
+use Rattle.checking.proofs.Parts.{total-step}
 use Rattle.writer.proofs.Left.{postings-left, postings-whole, postings-next, postings-end}
 use denote.Ref.{now}
 use borrow.Author.Needs.{needs}

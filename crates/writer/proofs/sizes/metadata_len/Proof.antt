@@ -9,7 +9,7 @@ use denote.Ref.{now}
 use borrow.Author.Needs.{needs}
 use Rattle.codec.specs.Leb128.{encoded}
 use Rattle.segment.specs.Metadata.{document}
-use Rattle.writer.specs.Given.{paired}
+use Rattle.checking.specs.Given.{paired}
 use Rattle.writer.specs.Bytes.{metadata-bytes}
 use Rattle.writer.proofs.Lengths.{flat-metadata-size}
 use Rattle.writer.proofs.Left.{metadata-left, metadata-whole, metadata-next, metadata-end}

@@ -7,11 +7,11 @@ use mathlib.Core.Option.{none}
 use lib.ListN.{length, drop, getD, length-append}
 use Rattle.codec.specs.Leb128.{encoded}
 use Rattle.codec.proofs.Shortest.{encoded-size}
-use Rattle.writer.specs.Given.{total}
+use Rattle.checking.specs.Given.{total}
 use Rattle.writer.specs.Bytes.{postings-bytes}
-use Rattle.writer.specs.Flat.{postings-in}
+use Rattle.checking.specs.Flat.{postings-in}
 use Rattle.writer.proofs.Lengths.{flat-postings-size}
-use Rattle.writer.proofs.Parts.{total-step}
+use Rattle.checking.proofs.Parts.{total-step}
 use Rattle.writer.proofs.Left.{postings-left, postings-whole, postings-next, postings-end}
 use denote.Ref.{now}
 use borrow.Author.Needs.{needs}

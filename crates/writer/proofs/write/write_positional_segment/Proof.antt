@@ -5,13 +5,13 @@ use Prim.Native.Nat.{_+_, _*_, _≤_}
 use native.Mathlib.Omega.{arith}
 use Rattle.segment.specs.declared.metadata.Checked.the-variants.{Passed}
 use Rattle.segment.specs.Walks.{checked}
-use Rattle.writer.specs.Given.{Lists, given}
-use Rattle.writer.specs.Writing.{check-lists}
-use Rattle.writer.specs.Acceptance.{Small, Shape}
-use Rattle.writer.specs.Flat.{lists, Checkable}
-use Rattle.writer.proofs.Accepts.{small-gives, shaped-gives}
-use Rattle.writer.proofs.Walking.{terms-start}
-use Rattle.writer.proofs.Checking.{passed-checkable}
+use Rattle.checking.specs.Given.{Lists, given}
+use Rattle.checking.specs.Checks.{check-lists}
+use Rattle.checking.specs.Acceptance.{Small, Shape}
+use Rattle.checking.specs.Flat.{lists, Checkable}
+use Rattle.checking.proofs.Passing.{small-gives, shaped-gives}
+use Rattle.checking.proofs.Walking.{terms-start}
+use Rattle.checking.proofs.Checking.{passed-checkable}
 use Rattle.writer.proofs.Lengths.{flat-metadata-size, lists-small}
 use Rattle.writer.proofs.Whole.{segment-length, wrote-refusal, wrote-no-room, wrote-all}
 use mathlib.Core.List.{List}

@@ -1,0 +1,79 @@
+-- What is handed to the writer: eight flat lists (document 01, "From Rust's shapes to ours"), and the nested lists that they stand for.
+use Prim.Native.Nat.{ℕ, _+_}
+use mathlib.Core.List.{List, [], _∷_, _++_, map}
+use lib.ListN.{length, take, drop}
+use Rattle.segment.specs.Records.{Document, Posting, Term}
+use Rattle.segment.specs.Metadata.{document}
+use Rattle.segment.specs.Texts.{names}
+
+-- in the order in which the writer takes them
+pub record Lists : Type 0 where
+  pub ids : List ℕ
+  pub lengths : List ℕ
+  pub text : List ℕ
+  pub ends : List ℕ
+  pub posting-counts : List ℕ
+  pub posting-ids : List ℕ
+  pub position-counts : List ℕ
+  pub positions : List ℕ
+
+-- documents, and terms with their postings (PositionalTermPostings)
+pub record Given : Type 0 where
+  pub documents : List Document
+  pub terms : List Term
+
+-- two lists side by side
+abbrev pub paired : {A B C : Type 0} → (A → B → C) → List A → List B → List C
+paired f [] ys = []
+paired f (x ∷ xs) [] = []
+paired f (x ∷ xs) (y ∷ ys) = f x y ∷ paired f xs ys
+
+-- a list cut into parts of these lengths
+abbrev pub parts : {A : Type 0} → (counts : List ℕ) → List A → List (List A)
+parts [] xs = []
+parts (c ∷ cs) xs = take c xs ∷ parts cs (drop c xs)
+
+abbrev pub posting : ℕ → List ℕ → Posting
+posting d ps = record { doc = d; positions = ps }
+
+abbrev pub term : List ℕ → List Posting → Term
+term n ps = record { name = n; postings = ps }
+
+abbrev pub all-postings : Lists → List Posting
+all-postings l = paired posting (l .posting-ids) (parts (l .position-counts) (l .positions))
+
+unfoldable pub given : Lists → Given
+given l = record {
+  documents = paired document (l .ids) (l .lengths);
+  terms = paired term (names 0 (l .ends) (l .text)) (parts (l .posting-counts) (all-postings l));
+}
+
+-- the sum of the counts; no width, so it never wraps
+abbrev pub total : List ℕ → ℕ
+total [] = 0
+total (c ∷ cs) = c + total cs
+
+-- ---- the nested lists laid flat again. Crate writer, specs/Back.antt: of what was accepted, this gives the eight lists back
+
+abbrev pub joined : {A : Type 0} → List (List A) → List A
+joined [] = []
+joined (xs ∷ xss) = xs ++ joined xss
+
+abbrev pub ends-from : ℕ → List (List ℕ) → List ℕ
+ends-from from [] = []
+ends-from from (n ∷ ns) = (from + length n) ∷ ends-from (from + length n) ns
+
+unfoldable pub laid-flat : Given → Lists
+laid-flat g =
+    let terms = g .terms in
+    let postings = joined (map (λ t. t .postings) terms) in
+    record {
+      ids = map (λ d. d .id) (g .documents);
+      lengths = map (λ d. d .len) (g .documents);
+      text = joined (map (λ t. t .name) terms);
+      ends = ends-from 0 (map (λ t. t .name) terms);
+      posting-counts = map (λ t. length (t .postings)) terms;
+      posting-ids = map (λ p. p .doc) postings;
+      position-counts = map (λ p. length (p .positions)) postings;
+      positions = joined (map (λ p. p .positions) postings);
+    }

@@ -1,0 +1,108 @@
+// The length of a document, over its ids and lengths side by side.
+ghost use mathlib.Core.Path.{_≡_};
+ghost use Prim.Native.Nat.{_≤_};
+ghost use lib.ListN.{length};
+ghost use Rattle.segment.specs.Metadata.{document, length-of};
+ghost use Rattle.checking.specs.Given.{paired};
+ghost use Rattle.checking.specs.Flat.{Rises, known-means};
+
+pub enum DocumentLength {
+    Known(u32),
+    Unknown,
+}
+
+// The length beside an id: at the hint, or else by binary search, as the ids rise strictly. Any hint is as right as another.
+pub fn document_len(ids: &[u32], lengths: &[u32], id: u32, hint: usize) -> DocumentLength
+    requires { ⌜ Rises (now ids) × (length (now ids) ≡ length (now lengths)) ⌝ }
+    ensures { λ r. ⌜ known-means r ≡ length-of (paired document (now (ids .entry)) (now (lengths .entry))) id ⌝ }
+{
+    if hint < ids.len() {
+        if ids[hint] == id {
+            return DocumentLength::Known(lengths[hint]);
+        }
+    }
+    let mut low: usize = 0;
+    let mut high = ids.len();
+    while low < high {
+        let middle = low + (high - low) / 2;
+        let here = ids[middle];
+        if here == id {
+            return DocumentLength::Known(lengths[middle]);
+        }
+        if here < id {
+            low = middle + 1;
+        } else {
+            high = middle;
+        }
+    }
+    DocumentLength::Unknown
+}
+
+// A hint for `document_len`: where the id stands, if that is at `from` or behind. A term's postings rise, so each document is near the one
+// before. Nothing is promised of it but that it comes, as `document_len` tests it.
+
+// So many ids are compared at once.
+const NEXT: usize = 8;
+
+// How many of the ids are lower. Every one is compared: no branch for the processor to guess.
+fn lower_of(ids: &[u32], id: u32) -> usize
+    ensures { λ r. ⌜ r ≤ length (now (ids .entry)) ⌝ }
+{
+    let mut lower: usize = 0;
+    let mut i: usize = 0;
+    while i < ids.len() {
+        if ids[i] < id {
+            lower += 1;
+        }
+        i += 1;
+    }
+    lower
+}
+
+// By halves.
+fn place_within(ids: &[u32], id: u32, from: usize, to: usize) -> usize
+    requires { ⌜ to ≤ length (now ids) ⌝ }
+{
+    let mut low = from;
+    let mut high = to;
+    while low < high {
+        let middle = low + (high - low) / 2;
+        if ids[middle] < id {
+            low = middle + 1;
+        } else {
+            high = middle;
+        }
+    }
+    low
+}
+
+// In steps that double, then by halves inside the last.
+fn place_behind(ids: &[u32], id: u32, from: usize) -> usize {
+    let mut low = from;
+    let mut step = NEXT;
+    while low < ids.len() {
+        if ids.len() - low <= step {
+            return place_within(ids, id, low, ids.len());
+        }
+        let last = low + step - 1;
+        if id <= ids[last] {
+            return place_within(ids, id, low, last);
+        }
+        low += step;
+        step = step * 2;
+    }
+    low
+}
+
+// Among the next ids, else behind them.
+pub fn place_from(ids: &[u32], id: u32, from: usize) -> usize {
+    if from < ids.len() {
+        if NEXT < ids.len() - from {
+            if id <= ids[from + NEXT - 1] {
+                return from + lower_of(&ids[from..from + NEXT], id);
+            }
+            return place_behind(ids, id, from + NEXT);
+        }
+    }
+    place_behind(ids, id, from)
+}

@@ -1,0 +1,2 @@
+-- Demand 3 over records.
+pub mod Asking

@@ -1,0 +1,17 @@
+use mathlib.Core.Path.{sym, _∙_, ap}
+use Rattle.pstp.specs.Replies.{frequency-reply}
+use borrow.Author.Needs.{needs}
+use Rattle.pstp.proofs.read.pstp_df.Statement.{statement}
+use Rattle.pstp.proofs.read.pstp_df.Tie as tie
+
+df-requires : tie.Need-df-requires
+df-requires c κs = search needs
+
+of-frequency-requires : tie.Need-of-frequency-requires
+of-frequency-requires c κs = search needs
+
+returns : tie.Need-returns
+returns c = c .of-frequency .ensures ∙ ap frequency-reply (c .before .df .ensures)
+
+pub pstp-df-spec : {M : Type 1} → statement M
+pstp-df-spec = tie.close (tie.spec df-requires of-frequency-requires returns)

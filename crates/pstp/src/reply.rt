@@ -1,0 +1,107 @@
+// One reply for all calls: kind 0 is acceptance, with the answer's numbers; else the three numbers of a refusal.
+use calls::replies::Frequency;
+use calls::replies::Length;
+use calls::replies::Listed;
+use opening::open_segment::Opened;
+use reading::replies::Counted;
+use segment::refusal::Refusal;
+use writer::write::Written;
+ghost use mathlib.Core.Path.{_≡_};
+ghost use Rattle.pstp.specs.Replies.{accepted, refused, opened-reply, length-reply, frequency-reply, counted-reply, listed-reply, written-reply};
+
+// kind 0: accepted, and first and second have the answer's numbers. Else a refusal, and both are 0.
+#[repr(C)]
+pub struct Reply {
+    pub kind: u32,
+    pub which: u32,
+    pub index: u64,
+    pub first: u64,
+    pub second: u64,
+}
+
+// Acceptance, with the answer's numbers.
+fn accept(first: u64, second: u64) -> Reply
+    ensures { λ r. ⌜ r ≡ accepted first second ⌝ }
+{
+    Reply {
+        kind: 0,
+        which: 0,
+        index: 0,
+        first: first,
+        second: second,
+    }
+}
+
+// A refusal.
+fn refuse(x: Refusal) -> Reply
+    ensures { λ r. ⌜ r ≡ refused x ⌝ }
+{
+    Reply {
+        kind: x.kind,
+        which: x.which,
+        index: x.index,
+        first: 0,
+        second: 0,
+    }
+}
+
+// documents, terms
+pub fn of_opened(a: Opened) -> Reply
+    ensures { λ r. ⌜ r ≡ opened-reply a ⌝ }
+{
+    match a {
+        Opened::Counts(c) => accept(c.documents as u64, c.terms as u64),
+        Opened::Refused(x) => refuse(x),
+    }
+}
+
+// 1 and the length, or 0 and 0 where the document is unknown
+pub fn of_length(a: Length) -> Reply
+    ensures { λ r. ⌜ r ≡ length-reply a ⌝ }
+{
+    match a {
+        Length::Known(n) => accept(1, n as u64),
+        Length::Absent => accept(0, 0),
+        Length::Refused(x) => refuse(x),
+    }
+}
+
+// df
+pub fn of_frequency(a: Frequency) -> Reply
+    ensures { λ r. ⌜ r ≡ frequency-reply a ⌝ }
+{
+    match a {
+        Frequency::Df(n) => accept(n as u64, 0),
+        Frequency::Refused(x) => refuse(x),
+    }
+}
+
+// how many
+pub fn of_counted(a: Counted) -> Reply
+    ensures { λ r. ⌜ r ≡ counted-reply a ⌝ }
+{
+    match a {
+        Counted::Count(n) => accept(n as u64, 0),
+        Counted::Refused(x) => refuse(x),
+    }
+}
+
+// postings, positions
+pub fn of_listed(a: Listed) -> Reply
+    ensures { λ r. ⌜ r ≡ listed-reply a ⌝ }
+{
+    match a {
+        Listed::Totals(t) => accept(t.postings as u64, t.positions as u64),
+        Listed::Refused(x) => refuse(x),
+    }
+}
+
+// how many bytes
+pub fn of_written(a: Written) -> Reply
+    ensures { λ r. ⌜ r ≡ written-reply a ⌝ }
+{
+    match a {
+        Written::Length(n) => accept(n as u64, 0),
+        Written::Refused(x) => refuse(x),
+    }
+}

@@ -1,0 +1,47 @@
+// Records exchanged with two lists of numbers, place by place: its own inverse, so one walk takes the records apart and puts them back.
+use segment::ids::DocId;
+ghost use mathlib.Core.Path.{_≡_};
+ghost use lib.ListN.{length};
+ghost use Rattle.records.specs.Exchanged.{three, exchanged, Least};
+
+// Laid out as in C, and so is DocId: slices of these cross the C interface.
+#[repr(C)]
+pub struct DocumentLength {
+    pub id: DocId,
+    pub len: u32,
+}
+
+// The least of three lengths.
+fn shortest(a: usize, b: usize, c: usize) -> usize
+    ensures { λ r. ⌜ Least a b c r ⌝ }
+{
+    if b < a {
+        if c < b {
+            return c;
+        }
+        return b;
+    }
+    if c < a {
+        return c;
+    }
+    a
+}
+
+// As far as the shortest of the three goes.
+pub fn exchange(documents: &mut [DocumentLength], ids: &mut [u32], lengths: &mut [u32])
+    ensures { λ _. ⌜ three (now (documents .exit)) (now (ids .exit)) (now (lengths .exit)) ≡ exchanged (now (documents .entry)) (now (ids .entry)) (now (lengths .entry)) ⌝ }
+{
+    let n = shortest(documents.len(), ids.len(), lengths.len());
+    let mut i: usize = 0;
+    while i < n {
+        let document = &mut documents[i];
+        let id = &mut ids[i];
+        let len = &mut lengths[i];
+        let taken = *document;
+        document.id.0 = *id;
+        document.len = *len;
+        *id = taken.id.0;
+        *len = taken.len;
+        i += 1;
+    }
+}
