@@ -1,0 +1,74 @@
+#include "check.h"
+
+#include <inttypes.h>
+#include <stdio.h>
+
+unsigned passed, failed;
+uint32_t nowhere[1];
+uint8_t no_bytes[1];
+
+void expect(const char *note, bool ok) {
+    if (ok) {
+        passed++;
+    } else {
+        failed++;
+        printf("FAILED %s\n", note);
+    }
+}
+
+pstp_reply accepted(uint64_t first, uint64_t second) {
+    pstp_reply r = {PSTP_ACCEPTED, 0, 0, first, second};
+    return r;
+}
+
+pstp_reply refused(uint32_t kind, uint32_t which, uint64_t index) {
+    pstp_reply r = {kind, which, index, 0, 0};
+    return r;
+}
+
+static void print_reply(const char *what, pstp_reply r) {
+    printf("  %s %" PRIu32 " %" PRIu32 " %" PRIu64 ", %" PRIu64 " %" PRIu64 "\n", what, r.kind, r.which, r.index, r.first, r.second);
+}
+
+void expect_reply(const char *note, pstp_reply got, pstp_reply want) {
+    bool same = got.kind == want.kind && got.which == want.which && got.index == want.index && got.first == want.first
+        && got.second == want.second;
+    expect(note, same);
+    if (!same) {
+        print_reply("got ", got);
+        print_reply("want", want);
+    }
+}
+
+static uint32_t mark(size_t i) {
+    return 0xC0DE0000u + (uint32_t)i;
+}
+
+struct lent lent(void) {
+    struct lent buffer;
+    for (size_t i = 0; i < ROOM; i++) {
+        buffer.place[i] = mark(i);
+    }
+    return buffer;
+}
+
+void expect_filled(const char *note, const struct lent *buffer, const uint32_t *answer, size_t n) {
+    bool same = true;
+    for (size_t i = 0; i < ROOM; i++) {
+        same = same && buffer->place[i] == (i < n ? answer[i] : mark(i));
+    }
+    expect(note, same);
+}
+
+int main(void) {
+    test_opening();
+    test_decoding();
+    test_reading();
+    test_searching();
+    test_writing();
+    test_limits();
+    test_empty();
+    test_stack();
+    printf("%u passed, %u failed\n", passed, failed);
+    return failed == 0 ? 0 : 1;
+}

@@ -1,0 +1,40 @@
+/* Empty slices with NULL for a pointer. The header asks for a valid pointer; this is what a caller who forgets gets. */
+#include "build.h"
+#include "check.h"
+
+void test_empty(void) {
+    const char *note = "NULL for an empty slice";
+    struct bytes s = two_bars();
+    const uint8_t *kick = (const uint8_t *)"kick";
+    const uint32_t end[] = {4}, none[] = {0, 0};
+    struct lent x = lent();
+    expect_reply(note, pstp_open(NULL, 0), refused(1, 1, 0));
+    expect_reply(note, pstp_document_lengths(s.at, s.len, NULL, 0, NULL, 0), refused(13, 1, 2));
+    expect_reply(note, pstp_document_lengths(s.at, s.len, x.place, ROOM, NULL, 0), refused(13, 2, 2));
+    expect_reply(note, pstp_document_len(NULL, 0, 3), refused(1, 1, 0));
+    expect_reply(note, pstp_df(s.at, s.len, NULL, 0), accepted(0, 0));
+    expect_reply(note, pstp_docs_with_term(s.at, s.len, kick, 4, NULL, 0), refused(13, 1, 2));
+    expect_reply(note, pstp_docs_with_term(s.at, s.len, NULL, 0, NULL, 0), accepted(0, 0));
+    expect_reply(note, pstp_term_postings(s.at, s.len, kick, 4, NULL, 0, NULL, 0, NULL, 0), refused(13, 1, 2));
+    expect_reply(note, pstp_term_postings(s.at, s.len, kick, 4, x.place, 2, x.place + 2, 2, NULL, 0), refused(13, 3, 4));
+    expect_reply(note, pstp_positions(s.at, s.len, kick, 4, 3, NULL, 0), refused(13, 1, 3));
+    expect_reply(note, pstp_phrase_match_strs(s.at, s.len, kick, 4, end, 1, NULL, 0), refused(13, 1, 2));
+    expect_reply(note, pstp_phrase_match_strs(s.at, s.len, NULL, 0, NULL, 0, NULL, 0), accepted(0, 0));
+    expect_reply(note, pstp_phrase_match_strs(s.at, s.len, NULL, 0, none, 2, NULL, 0), accepted(0, 0));
+    expect_reply(note, pstp_near_match(s.at, s.len, kick, 4, kick, 4, 4, NULL, 0), refused(13, 1, 1));
+    expect_reply(note, pstp_near_match(s.at, s.len, NULL, 0, NULL, 0, 4, NULL, 0), accepted(0, 0));
+    expect_reply(note, pstp_near_match_terms_strs(s.at, s.len, NULL, 0, NULL, 0, 4, true, NULL, 0), accepted(0, 0));
+    expect_reply(note, pstp_near_match_terms_strs(s.at, s.len, NULL, 0, none, 2, 4, false, NULL, 0), accepted(0, 0));
+    expect_reply(note, pstp_write_positional_segment(NULL, 0, NULL, 0, NULL, 0, NULL, 0, NULL, 0, NULL, 0, NULL, 0, NULL, 0, NULL, 0),
+                 refused(13, 1, 72));
+    struct bytes out = {{0}, 72};
+    expect_reply(note, pstp_write_positional_segment(NULL, 0, NULL, 0, NULL, 0, NULL, 0, NULL, 0, NULL, 0, NULL, 0, NULL, 0, out.at, 72),
+                 accepted(72, 0));
+    expect_reply(note,
+                 pstp_write_positional_segment_records(NULL, 0, NULL, 0, NULL, 0, NULL, 0, NULL, 0, NULL, 0, NULL, 0, NULL, 0, NULL, 0,
+                                                       out.at, 72),
+                 accepted(72, 0));
+    expect_reply(note, pstp_open(out.at, 72), accepted(0, 0));
+    expect_reply(note, pstp_document_lengths(out.at, 72, NULL, 0, NULL, 0), accepted(0, 0));
+    expect_filled(note, &x, nowhere, 0);
+}

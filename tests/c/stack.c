@@ -1,0 +1,124 @@
+/* How deep a call goes: each runs on a painted stack of its own, and the lowest place that lost its paint counts. Measured, not proved. */
+#define _XOPEN_SOURCE 700
+#include "build.h"
+#include "check.h"
+
+#include <stdio.h>
+#include <string.h>
+#include <ucontext.h>
+
+enum { SEARCH = 65536, OTHER = 4096, PAINT = 0xA5 };
+
+static uint8_t stack[4 * SEARCH];
+static ucontext_t host, guest;
+static void (*running)(void);
+
+/* A segment of 128 terms, all on steps 0 and 1 of three documents, and the question that names them all. */
+static uint8_t segment[16384], text[256];
+static size_t segment_len;
+static uint32_t ends[128], ids[8], more_ids[8], places[8];
+static size_t room;
+static pstp_reply reply;
+
+static uint32_t posting_counts[128], posting_ids[384], position_counts[384], positions[768];
+
+static void make_segment(void) {
+    const uint32_t documents[] = {1, 2, 3}, lengths[] = {2, 2, 2};
+    for (uint32_t i = 0; i < 384; i++) {
+        text[i % 256] = (uint8_t)(i % 2 ? 'a' + i % 256 / 2 % 16 : 'A' + i % 256 / 32);
+        ends[i % 128] = 2 * (i % 128 + 1);
+        posting_counts[i % 128] = 3;
+        posting_ids[i] = 1 + i % 3;
+        position_counts[i] = 2;
+        positions[2 * i] = 0;
+        positions[2 * i + 1] = 1;
+    }
+    reply = pstp_write_positional_segment(documents, 3, lengths, 3, text, 256, ends, 128, posting_counts, 128, posting_ids, 384,
+                                          position_counts, 384, positions, 768, segment, sizeof segment);
+    segment_len = (size_t)reply.first;
+}
+
+static void make_segment_of_records(void) {
+    pstp_document_length documents[] = {{1, 2}, {2, 2}, {3, 2}};
+    reply = pstp_write_positional_segment_records(documents, 3, ids, 3, more_ids, 3, text, 256, ends, 128, posting_counts, 128,
+                                                  posting_ids, 384, position_counts, 384, positions, 768, segment, sizeof segment);
+}
+
+static void phrase(void) {
+    reply = pstp_phrase_match_strs(segment, segment_len, text, 256, ends, 128, ids, room);
+}
+static void short_phrase(void) {
+    reply = pstp_phrase_match_strs(segment, segment_len, text, 4, ends, 2, ids, room);
+}
+static void ordered(void) {
+    reply = pstp_near_match_terms_strs(segment, segment_len, text, 4, ends, 2, 1, true, ids, room);
+}
+static void unordered(void) {
+    reply = pstp_near_match_terms_strs(segment, segment_len, text, 256, ends, 128, 1, false, ids, room);
+}
+static void near_two(void) {
+    reply = pstp_near_match(segment, segment_len, text, 2, text + 2, 2, 1, ids, room);
+}
+static void postings(void) {
+    reply = pstp_term_postings(segment, segment_len, text, 2, ids, room, more_ids, room, places, room);
+}
+static void document_lengths(void) {
+    reply = pstp_document_lengths(segment, segment_len, ids, room, more_ids, room);
+}
+
+/* What each answers with room, and how deep it may go. */
+static const struct {
+    const char *note;
+    void (*call)(void);
+    uint64_t first, second;
+    size_t promised;
+} calls[] = {
+    {"writer", make_segment, 72 + 32 * 128 + 256 + 3 * 2 + 128 * 3 * 4, 0, OTHER},
+    {"writer over records", make_segment_of_records, 72 + 32 * 128 + 256 + 3 * 2 + 128 * 3 * 4, 0, OTHER},
+    {"document_lengths", document_lengths, 3, 0, OTHER},
+    {"term_postings", postings, 3, 6, OTHER},
+    {"phrase of 128", phrase, 0, 0, SEARCH},
+    {"phrase of two", short_phrase, 3, 0, SEARCH},
+    {"ordered", ordered, 3, 0, SEARCH},
+    {"unordered", unordered, 3, 0, SEARCH},
+    {"near_match", near_two, 3, 0, SEARCH},
+};
+
+static void run(void) {
+    running();
+}
+
+static size_t depth_of(void (*call)(void)) {
+    size_t untouched = 0;
+    running = call;
+    memset(stack, PAINT, sizeof stack);
+    getcontext(&guest);
+    guest.uc_stack.ss_sp = stack;
+    guest.uc_stack.ss_size = sizeof stack;
+    guest.uc_link = &host;
+    makecontext(&guest, run, 0);
+    swapcontext(&host, &guest);
+    while (untouched < sizeof stack && stack[untouched] == PAINT) {
+        untouched++;
+    }
+    return sizeof stack - untouched;
+}
+
+void test_stack(void) {
+    size_t most = 0;
+    const char *deepest = "";
+    for (size_t i = 0; i < sizeof calls / sizeof calls[0]; i++) {
+        for (room = 0; room <= 8; room += 8) { /* counted first, or filled at once */
+            size_t depth = depth_of(calls[i].call);
+            if (room == 8) {
+                expect_reply(calls[i].note, reply, accepted(calls[i].first, calls[i].second));
+            }
+            expect(calls[i].note, depth < calls[i].promised);
+            if (depth > most) {
+                most = depth;
+                deepest = calls[i].note;
+            }
+        }
+    }
+    printf("stack: at most %zu bytes (%s)\n", most, deepest);
+}
