@@ -1,0 +1,221 @@
+//! A refusal's three numbers as the original's error.
+
+use std::fmt;
+
+/// Why a call was refused. The first ten are the original's, with its texts; the last three belong to the library.
+#[derive(Debug, Clone, PartialEq, Eq)]
+#[non_exhaustive]
+pub enum Error {
+    /// The segment magic did not match the raw positional format.
+    InvalidMagic,
+    /// The segment version is not supported by this reader.
+    UnsupportedVersion(u32),
+    /// The segment flags contain unsupported bits.
+    UnsupportedFlags(u32),
+    /// A fixed-width field or section was truncated.
+    Truncated(&'static str),
+    /// A section checksum did not match the encoded bytes.
+    ChecksumMismatch(&'static str),
+    /// The encoded layout violated the raw positional segment contract.
+    InvalidLayout(&'static str),
+    /// A varint field could not be decoded.
+    InvalidVarint {
+        /// Section being decoded.
+        section: &'static str,
+        /// Field index within the section.
+        index: usize,
+    },
+    /// A delta-decoded document id overflowed.
+    DocIdOverflow(usize),
+    /// A delta-decoded token position overflowed.
+    PositionOverflow(usize),
+    /// A term string was not valid UTF-8.
+    InvalidUtf8,
+    /// Flat lists do not fit together. Slices of slices always do: no call of this crate gives it.
+    ListShape,
+    /// A list or text handed in has over 16,777,216 elements, or a question over 128 terms.
+    TooLarge,
+    /// A lent buffer is too short. This crate lends buffers that suffice: no call of it gives this.
+    NoRoom {
+        /// The buffer's place among those lent, from 1.
+        buffer: u32,
+        /// The length that it needs.
+        needed: usize,
+    },
+}
+
+/// Sections, from 1.
+const SECTIONS: [&str; 6] = [
+    "header",
+    "term directory",
+    "term bytes",
+    "document metadata",
+    "postings",
+    "term postings",
+];
+
+/// Reasons of an invalid layout, from 1.
+const REASONS: [&str; 21] = [
+    "trailing bytes",
+    "section range overflow",
+    "trailing document metadata bytes",
+    "non-increasing document id",
+    "term directory length mismatch",
+    "empty term",
+    "non-increasing term",
+    "empty term posting list",
+    "non-increasing posting doc id",
+    "posting references unknown document",
+    "empty position list",
+    "non-increasing token position",
+    "token position exceeds document length",
+    "trailing posting bytes",
+    "document lengths must be strictly increasing",
+    "terms must be strictly increasing",
+    "posting doc id gap underflow",
+    "posting doc ids must be increasing",
+    "position gap underflow",
+    "positions must be increasing",
+    "position exceeds document length",
+];
+
+fn named(names: &[&'static str], which: u32) -> Option<&'static str> {
+    names
+        .get(usize::try_from(which).ok()?.checked_sub(1)?)
+        .copied()
+}
+
+impl Error {
+    /// The error with these numbers (document 01: kind, which, index), or none.
+    pub(crate) fn of_numbers(kind: u32, which: u32, index: u64) -> Option<Self> {
+        let section = || named(&SECTIONS, which);
+        let index = usize::try_from(index).ok()?;
+        let number = || u32::try_from(index).ok();
+        Some(match kind {
+            1 => Error::Truncated(section()?),
+            2 => Error::InvalidMagic,
+            3 => Error::UnsupportedVersion(number()?),
+            4 => Error::UnsupportedFlags(number()?),
+            5 => Error::ChecksumMismatch(section()?),
+            6 => Error::InvalidLayout(named(&REASONS, which)?),
+            7 => Error::InvalidVarint {
+                section: section()?,
+                index,
+            },
+            8 => Error::DocIdOverflow(index),
+            9 => Error::PositionOverflow(index),
+            10 => Error::InvalidUtf8,
+            11 => Error::ListShape,
+            12 => Error::TooLarge,
+            13 => Error::NoRoom {
+                buffer: which,
+                needed: index,
+            },
+            _ => return None,
+        })
+    }
+}
+
+impl fmt::Display for Error {
+    fn fmt(&self, f: &mut fmt::Formatter<'_>) -> fmt::Result {
+        match self {
+            Error::InvalidMagic => write!(f, "raw positional segment has invalid magic"),
+            Error::UnsupportedVersion(version) => {
+                write!(f, "unsupported raw positional segment version: {version}")
+            }
+            Error::UnsupportedFlags(flags) => {
+                write!(f, "unsupported raw positional segment flags: {flags:#x}")
+            }
+            Error::Truncated(section) => {
+                write!(f, "truncated raw positional segment section: {section}")
+            }
+            Error::ChecksumMismatch(section) => {
+                write!(f, "raw positional segment checksum mismatch in {section}")
+            }
+            Error::InvalidLayout(reason) => {
+                write!(f, "invalid raw positional segment layout: {reason}")
+            }
+            Error::InvalidVarint { section, index } => write!(
+                f,
+                "invalid varint in raw positional segment section {section} at index {index}"
+            ),
+            Error::DocIdOverflow(index) => {
+                write!(f, "raw positional segment doc id overflow at index {index}")
+            }
+            Error::PositionOverflow(index) => write!(
+                f,
+                "raw positional segment token position overflow at index {index}"
+            ),
+            Error::InvalidUtf8 => write!(f, "raw positional segment term is not UTF-8"),
+            Error::ListShape => write!(f, "lists do not fit together"),
+            Error::TooLarge => write!(f, "a list is too large or a question has too many terms"),
+            Error::NoRoom { buffer, needed } => {
+                write!(
+                    f,
+                    "buffer {buffer} is too short: {needed} places are needed"
+                )
+            }
+        }
+    }
+}
+
+impl std::error::Error for Error {}
+
+#[cfg(test)]
+mod tests {
+    use super::*;
+
+    #[test]
+    fn each_number_has_its_error() {
+        let cases = [
+            ((1, 1, 0), Error::Truncated("header")),
+            ((1, 5, 0), Error::Truncated("postings")),
+            ((2, 0, 0), Error::InvalidMagic),
+            ((3, 0, 4_294_967_295), Error::UnsupportedVersion(u32::MAX)),
+            ((4, 0, 1), Error::UnsupportedFlags(1)),
+            ((5, 6, 0), Error::ChecksumMismatch("term postings")),
+            ((6, 1, 0), Error::InvalidLayout("trailing bytes")),
+            (
+                (6, 21, 0),
+                Error::InvalidLayout("position exceeds document length"),
+            ),
+            (
+                (7, 4, 1 << 33),
+                Error::InvalidVarint {
+                    section: "document metadata",
+                    index: 1 << 33,
+                },
+            ),
+            ((8, 0, 7), Error::DocIdOverflow(7)),
+            ((9, 0, 8), Error::PositionOverflow(8)),
+            ((10, 0, 0), Error::InvalidUtf8),
+            ((11, 0, 0), Error::ListShape),
+            ((12, 0, 0), Error::TooLarge),
+            (
+                (13, 3, 9),
+                Error::NoRoom {
+                    buffer: 3,
+                    needed: 9,
+                },
+            ),
+        ];
+        for ((kind, which, index), error) in cases {
+            assert_eq!(Error::of_numbers(kind, which, index), Some(error));
+        }
+    }
+
+    #[test]
+    fn other_numbers_have_none() {
+        for (kind, which, index) in [
+            (0, 0, 0),
+            (14, 0, 0),
+            (1, 0, 0),
+            (5, 7, 0),
+            (6, 0, 0),
+            (6, 22, 0),
+            (3, 0, 1 << 32),
+        ] {
+            assert_eq!(Error::of_numbers(kind, which, index), None);
+        }
+    }
+}

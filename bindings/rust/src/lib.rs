@@ -1,0 +1,44 @@
+//! Positional segments: documents, terms and token positions in one run of bytes, and the phrase and near search over them.
+//!
+//! Names and shapes are those of `src/positional/raw.rs` of arclabs561/postings (MIT OR Apache-2.0); the work is done by `libpstp.a`, in
+//! which every call is proved to answer what its definition says. This crate turns slices of slices into the library's flat lists, lends
+//! the buffers, and gives refusals their names.
+//!
+//! ```
+//! use pstp::{write_positional_segment, PositionalPosting, PositionalTermPostings, RawPositionalSegment};
+//!
+//! let bytes = write_positional_segment(
+//!     &[(3, 16)],
+//!     &[PositionalTermPostings {
+//!         term: "kick",
+//!         postings: vec![PositionalPosting { doc_id: 3, positions: &[0, 4, 15] }],
+//!     }],
+//! )?;
+//! let segment = RawPositionalSegment::open(&bytes)?;
+//! assert_eq!(segment.positions("kick", 3)?, [0, 4, 15]);
+//! assert_eq!(segment.near_match("kick", "kick", 4)?, [3]);
+//! # Ok::<(), pstp::Error>(())
+//! ```
+//!
+//! # What differs from the original
+//!
+//! - Each call opens the segment anew: the library keeps nothing between calls. A call therefore reads the whole segment once, and every
+//!   method answers a [`Result`]; after [`RawPositionalSegment::open`] has accepted the bytes, opening them again cannot fail.
+//! - A question has at most 128 terms, and each list handed in at most 16,777,216 elements: else [`Error::TooLarge`].
+//! - Files and the hash-map index are left out.
+#![deny(missing_docs)]
+#![deny(unsafe_code)]
+
+mod error;
+mod flat;
+mod room;
+mod segment;
+#[allow(unsafe_code)]
+mod sys;
+mod types;
+mod writer;
+
+pub use error::Error;
+pub use segment::RawPositionalSegment;
+pub use types::{DocId, PositionalPosting, PositionalTermPostings, RawPositionalPosting, TokenPos};
+pub use writer::write_positional_segment;

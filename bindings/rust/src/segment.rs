@@ -1,0 +1,133 @@
+//! A segment and the questions to it.
+
+use crate::flat::Names;
+use crate::room::{front, with_positions};
+use crate::sys::{self, Reply};
+use crate::types::{DocId, RawPositionalPosting, TokenPos};
+use crate::Error;
+
+/// A byte-backed immutable positional segment.
+///
+/// It holds the bytes and their two counts, nothing decoded: each method opens and checks the bytes anew.
+#[derive(Clone, Copy, Debug)]
+pub struct RawPositionalSegment<'a> {
+    bytes: &'a [u8],
+    doc_count: u32,
+    term_count: u32,
+}
+
+impl<'a> RawPositionalSegment<'a> {
+    /// Open a raw positional segment from bytes.
+    ///
+    /// Fixed sections and checksums are validated. Posting payloads are decoded when a term is requested.
+    pub fn open(bytes: &'a [u8]) -> Result<Self, Error> {
+        let (documents, terms) = sys::open(bytes).answer()?;
+        Ok(Self {
+            bytes,
+            doc_count: documents as u32,
+            term_count: terms as u32,
+        })
+    }
+
+    /// Return the number of documents.
+    pub fn doc_count(&self) -> u32 {
+        self.doc_count
+    }
+
+    /// Return the number of terms.
+    pub fn term_count(&self) -> u32 {
+        self.term_count
+    }
+
+    /// Return `(doc_id, token_count)` pairs sorted by document id.
+    pub fn document_lengths(&self) -> Result<Vec<(DocId, u32)>, Error> {
+        let mut ids = self.room_for_documents();
+        let mut lengths = self.room_for_documents();
+        sys::document_lengths(self.bytes, &mut ids, &mut lengths).answer()?;
+        Ok(ids.into_iter().zip(lengths).collect())
+    }
+
+    /// Return one document's token count, if present.
+    pub fn document_len(&self, doc_id: DocId) -> Result<Option<u32>, Error> {
+        let (known, len) = sys::document_len(self.bytes, doc_id).answer()?;
+        Ok((known == 1).then_some(len as u32))
+    }
+
+    /// Return the number of documents containing a term, as the directory has it; 0 for an unknown term.
+    pub fn df(&self, term: &str) -> Result<u32, Error> {
+        let (df, _) = sys::df(self.bytes, term).answer()?;
+        Ok(df as u32)
+    }
+
+    /// Return sorted document ids containing a term; none for an unknown term.
+    pub fn docs_with_term(&self, term: &str) -> Result<Vec<DocId>, Error> {
+        self.documents(|ids| sys::docs_with_term(self.bytes, term, ids))
+    }
+
+    /// Return decoded postings for one term; none for an unknown term.
+    pub fn term_postings(&self, term: &str) -> Result<Vec<RawPositionalPosting>, Error> {
+        let mut ids = self.room_for_documents();
+        let mut counts = self.room_for_documents();
+        // A position takes a byte or more.
+        let (postings, positions) = with_positions(self.bytes.len(), |positions| {
+            sys::term_postings(self.bytes, term, &mut ids, &mut counts, positions)
+        })?;
+        let mut rest = positions.as_slice();
+        let mut out = Vec::with_capacity(postings);
+        for (&doc_id, &count) in ids.iter().zip(&counts).take(postings) {
+            let (positions, next) = rest.split_at(count as usize);
+            rest = next;
+            out.push(RawPositionalPosting {
+                doc_id,
+                positions: positions.to_vec(),
+            });
+        }
+        Ok(out)
+    }
+
+    /// Return positions for one term in one document; none where either is unknown. The term's whole list is decoded.
+    pub fn positions(&self, term: &str, doc_id: DocId) -> Result<Vec<TokenPos>, Error> {
+        let (count, positions) = with_positions(self.bytes.len(), |positions| {
+            sys::positions(self.bytes, term, doc_id, positions)
+        })?;
+        Ok(front(positions, count as u64))
+    }
+
+    /// Exact phrase match over borrowed term strings.
+    pub fn phrase_match_strs(&self, phrase: &[&str]) -> Result<Vec<DocId>, Error> {
+        let names = Names::of(phrase)?;
+        self.documents(|ids| sys::phrase_match_strs(self.bytes, &names, ids))
+    }
+
+    /// Proximity match: returns docs where `a` and `b` occur within `window` tokens.
+    pub fn near_match(&self, a: &str, b: &str, window: u32) -> Result<Vec<DocId>, Error> {
+        self.documents(|ids| sys::near_match(self.bytes, a, b, window, ids))
+    }
+
+    /// Multi-term proximity over borrowed term strings.
+    ///
+    /// - `ordered=false`: unordered window (`max(pos)-min(pos) <= window`) covering all term occurrences.
+    /// - `ordered=true`: terms must appear in the given order within `window`.
+    pub fn near_match_terms_strs(
+        &self,
+        terms: &[&str],
+        window: u32,
+        ordered: bool,
+    ) -> Result<Vec<DocId>, Error> {
+        let names = Names::of(terms)?;
+        self.documents(|ids| sys::near_match_terms_strs(self.bytes, &names, window, ordered, ids))
+    }
+
+    /// A place for each document. An open segment has two bytes or more for each, so this is at most twice the segment.
+    fn room_for_documents(&self) -> Vec<u32> {
+        vec![0; self.doc_count as usize]
+    }
+
+    /// An answer of documents: never more than the segment has, so one call suffices. Asking for the length first would read the whole
+    /// segment and decode every list twice.
+    fn documents(&self, ask: impl FnOnce(&mut [u32]) -> Reply) -> Result<Vec<DocId>, Error> {
+        let mut ids = self.room_for_documents();
+        let (count, _) = ask(&mut ids).answer()?;
+        Ok(front(ids, count))
+    }
+}
