@@ -1,0 +1,166 @@
+//! Runs the library beside the Rust. README.md says what is compared; read in this order:
+//!   case, reply, numbers     a call, its reply, document 01's numbers for the Rust's errors
+//!   library, lent            the library through the C interface, with buffers whose every place is watched
+//!   rust, words              the oracle's answer: the Rust's, and what document 01 adds to it
+//!   given, rules             the writer's lists, and demand 3's rules tried over them
+//!   compare, tally           one call by both; what was asked and reached
+//!   make, spoil, parts, damage, questions, rounds      random inputs
+//!   bars, worked, corners, patterns, strings, large    document 01's cases, whole small spaces, limits
+//!   show, shrink, reshape, sample                      a case as text, made smaller, and as a record of the replay list
+
+mod bars;
+mod case;
+mod compare;
+mod corners;
+mod damage;
+mod given;
+mod large;
+mod lent;
+mod library;
+mod make;
+mod numbers;
+mod parts;
+mod patterns;
+mod questions;
+mod random;
+mod reply;
+mod reshape;
+mod rounds;
+mod rules;
+mod rust;
+mod sample;
+mod show;
+mod shrink;
+mod spoil;
+mod strings;
+mod tally;
+mod words;
+mod worked;
+
+use compare::{found, opened, Runner};
+use random::Random;
+use sample::Sample;
+use std::path::PathBuf;
+use std::process::ExitCode;
+use std::time::Instant;
+
+struct Options {
+    seed: u64,
+    calls: u64,
+    home: PathBuf,
+    whole: bool,
+    uneven: bool,
+    sample: Option<String>,
+    case: Option<String>,
+}
+
+fn options() -> Result<Options, String> {
+    let mut options =
+        Options { seed: 1, calls: 2_000_000, home: ".".into(), whole: false, uneven: false, sample: None, case: None };
+    let mut words = std::env::args().skip(1);
+    while let Some(word) = words.next() {
+        let mut value = || words.next().ok_or(format!("{word} wants a value"));
+        let number = |text: String| text.parse().map_err(|_| format!("{text} is not a number"));
+        match word.as_str() {
+            "--seed" => options.seed = number(value()?)?,
+            "--calls" => options.calls = number(value()?)?,
+            "--home" => options.home = value()?.into(),
+            "--whole" => options.whole = true,
+            "--uneven" => options.uneven = true,
+            "--sample" => options.sample = Some(value()?),
+            "--case" => options.case = Some(value()?),
+            _ => return Err(format!("unknown option {word}")),
+        }
+    }
+    Ok(options)
+}
+
+/// Tries one pasted case.
+fn one_case(line: &str) -> ExitCode {
+    let Some(kept) = show::parsed(line) else {
+        eprintln!("not a case: {line}");
+        return ExitCode::from(2);
+    };
+    let case = kept.case();
+    let found = found(&case, &opened(case.segment));
+    println!("the oracle: {:x?}", rust::in_room(&case, &found, kept.room));
+    match Runner::new(None).differs(&case, &found, kept.room) {
+        None => {
+            println!("no difference");
+            ExitCode::SUCCESS
+        }
+        Some(said) => {
+            print!("{said}");
+            ExitCode::FAILURE
+        }
+    }
+}
+
+/// Says what a part of the run took.
+fn part(runner: &mut Runner, name: &str, quota: u32, run: impl FnOnce(&mut Runner)) {
+    let (start, before) = (Instant::now(), runner.tally.total());
+    if let Some(sample) = &mut runner.sample {
+        sample.begin(quota);
+    }
+    run(runner);
+    let calls = runner.tally.total() - before;
+    println!("{name}: {calls} calls in {:.1} s, differences so far {}", start.elapsed().as_secs_f64(), runner.differences);
+}
+
+fn conclude(runner: &mut Runner) -> ExitCode {
+    runner.tally.print();
+    println!("answers held against demand 3's rules over the lists handed in: {}", runner.ruled);
+    println!("differences: {}", runner.differences);
+    if runner.differences == 0 {
+        return ExitCode::SUCCESS;
+    }
+    for said in &runner.astray {
+        println!("the Rust itself: {said}");
+    }
+    if let Some(kept) = runner.smallest.take() {
+        let kept = shrink::shrunk(runner, kept);
+        let case = kept.case();
+        let found = found(&case, &opened(case.segment));
+        println!("smallest: --case '{}'", show::shown(&kept));
+        print!("{}", runner.differs(&case, &found, kept.room).unwrap_or_default());
+    }
+    ExitCode::FAILURE
+}
+
+fn main() -> ExitCode {
+    let options = match options() {
+        Ok(options) => options,
+        Err(said) => {
+            eprintln!("{said}");
+            return ExitCode::from(2);
+        }
+    };
+    if options.uneven {
+        worked::print_uneven();
+        return ExitCode::SUCCESS;
+    }
+    if let Some(line) = &options.case {
+        return one_case(line);
+    }
+    let mut runner = Runner::new(options.sample.is_some().then(Sample::new));
+    part(&mut runner, "document 01's bars", 12, bars::all);
+    worked::all(&mut runner, &options.home);
+    part(&mut runner, "corners", 12, corners::all);
+    part(&mut runner, "limits of 16,777,216", 0, large::all);
+    part(&mut runner, "all small patterns", 3, |runner| patterns::all(runner, options.whole));
+    part(&mut runner, "all short strings", 3, |runner| strings::all(runner, options.whole));
+    let mut random = Random::new(options.seed);
+    part(&mut runner, &format!("random, seed {}", options.seed), 5, |runner| {
+        let until = runner.tally.total() + options.calls;
+        while runner.tally.total() < until {
+            rounds::round(runner, &mut random);
+        }
+    });
+    if let (Some(file), Some(sample)) = (&options.sample, &runner.sample) {
+        if let Err(error) = sample.write(file) {
+            eprintln!("{file}: {error}");
+            return ExitCode::from(2);
+        }
+    }
+    conclude(&mut runner)
+}
