@@ -1,0 +1,120 @@
+//! Bars as a drum machine has them, by a generator that always gives the same.
+
+/// The writer's eight flat lists.
+#[derive(Default)]
+pub struct Lists {
+    pub ids: Vec<u32>,
+    pub lengths: Vec<u32>,
+    pub text: Vec<u8>,
+    pub ends: Vec<u32>,
+    pub posting_counts: Vec<u32>,
+    pub posting_ids: Vec<u32>,
+    pub position_counts: Vec<u32>,
+    pub positions: Vec<u32>,
+}
+
+impl Lists {
+    /// A length that every segment of these lists keeps within.
+    pub fn room(&self) -> usize {
+        72 + 32 * self.ends.len() + self.text.len() + 10 * (self.ids.len() + self.posting_ids.len()) + 5 * self.positions.len()
+    }
+}
+
+/// The sounds in byte order, each with how often it is hit among 121 hits.
+const SOUNDS: [(&str, u32); 24] = [
+    ("agogo", 1),
+    ("bongo", 2),
+    ("cabasa", 1),
+    ("china", 1),
+    ("clap", 6),
+    ("claves", 1),
+    ("closed hat", 24),
+    ("conga", 2),
+    ("cowbell", 2),
+    ("crash", 3),
+    ("cuica", 1),
+    ("guiro", 1),
+    ("kick", 20),
+    ("maracas", 2),
+    ("open hat", 8),
+    ("pedal hat", 4),
+    ("ride", 8),
+    ("rim", 5),
+    ("shaker", 4),
+    ("snare", 16),
+    ("splash", 1),
+    ("tambourine", 3),
+    ("tom", 4),
+    ("triangle", 1),
+];
+
+/// A fill on eight consecutive steps; one bar in 32 has it. The phrases that are asked for are its beginnings.
+pub const FILL: [&str; 8] = ["kick", "closed hat", "snare", "open hat", "clap", "tom", "ride", "crash"];
+
+/// splitmix64.
+pub struct Random(pub u64);
+
+impl Random {
+    pub fn below(&mut self, n: u32) -> u32 {
+        self.0 = self.0.wrapping_add(0x9E37_79B9_7F4A_7C15);
+        let mut z = self.0;
+        z = (z ^ (z >> 30)).wrapping_mul(0xBF58_476D_1CE4_E5B9);
+        z = (z ^ (z >> 27)).wrapping_mul(0x94D0_49BB_1331_11EB);
+        ((z ^ (z >> 31)) % n as u64) as u32
+    }
+}
+
+fn sound(random: &mut Random) -> usize {
+    let mut left = random.below(SOUNDS.iter().map(|s| s.1).sum());
+    SOUNDS
+        .iter()
+        .position(|s| {
+            let here = left < s.1;
+            left = left.wrapping_sub(s.1);
+            here
+        })
+        .expect("a sound")
+}
+
+/// So many bars: ids rise by 1 to 3, a bar has 16, 32, 48 or 64 steps and 8 to 12 hits.
+pub fn bars(count: usize) -> Lists {
+    let mut random = Random(count as u64);
+    let mut terms: Vec<Lists> = (0..SOUNDS.len()).map(|_| Lists::default()).collect();
+    let mut lists = Lists::default();
+    let mut id = 0;
+    let mut hits: Vec<(usize, u32)> = Vec::new();
+    for bar in 0..count {
+        id += 1 + random.below(3);
+        let length = 16 * (1 + random.below(4));
+        lists.ids.push(id);
+        lists.lengths.push(length);
+        hits.clear();
+        for _ in 0..8 + random.below(5) {
+            hits.push((sound(&mut random), random.below(length)));
+        }
+        if bar % 32 == 7 {
+            let start = random.below(length - 7);
+            for (i, name) in FILL.iter().enumerate() {
+                let term = SOUNDS.iter().position(|s| s.0 == *name).expect("a sound");
+                hits.push((term, start + i as u32));
+            }
+        }
+        hits.sort_unstable();
+        hits.dedup();
+        for of_term in hits.chunk_by(|a, b| a.0 == b.0) {
+            let term = &mut terms[of_term[0].0];
+            term.posting_ids.push(id);
+            term.position_counts.push(of_term.len() as u32);
+            term.positions.extend(of_term.iter().map(|hit| hit.1));
+        }
+    }
+    for (term, sound) in terms.iter().zip(&SOUNDS) {
+        lists.text.extend_from_slice(sound.0.as_bytes());
+        lists.ends.push(lists.text.len() as u32);
+        lists.posting_counts.push(term.posting_ids.len() as u32);
+        lists.posting_ids.extend(&term.posting_ids);
+        lists.position_counts.extend(&term.position_counts);
+        lists.positions.extend(&term.positions);
+    }
+    lists
+}

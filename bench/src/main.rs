@@ -1,0 +1,104 @@
+//! Times the library against the original Rust, in one process on the same inputs, and prints docs/PERFORMANCE.md but for its notes.
+//!   bench CODE [--quick]            CODE: bytes of machine code in the library
+//!   bench again CALL DOCUMENTS TIMES   one call of the library over and over, for a profiler
+//!   bench one CALL DOCUMENTS ROUNDS    one call on both sides
+//!   bench limits                       the lists at their limits
+//!   bench stack                        the stack of every call
+//! Read in this order: data, calls, library, originals, measure, compare, limits, stack, report, text.
+mod again;
+mod calls;
+mod compare;
+mod data;
+mod library;
+mod limits;
+mod measure;
+mod originals;
+mod report;
+mod stack;
+mod text;
+
+use std::hint::black_box;
+
+/// The stack of every call, over 1,000 documents.
+fn depths() -> Vec<(String, usize)> {
+    let lists = data::bars(1000);
+    let mut bytes = vec![0; lists.room()];
+    let written = stack::depth(&mut || {
+        black_box(library::write(&lists, &mut bytes));
+    });
+    let length = library::write(&lists, &mut bytes).first as usize;
+    bytes.truncate(length);
+    let mut buffers = library::Buffers::new(1000, lists.positions.len());
+    let mut all = Vec::new();
+    for call in calls::all(1) {
+        let depth = stack::depth(&mut || {
+            black_box(library::ask(&call, &bytes, &mut buffers));
+        });
+        all.push((call.name(), depth));
+    }
+    all.push(("write".into(), written));
+    all
+}
+
+/// Whether the machine has memory for the lists at their limits.
+fn roomy() -> bool {
+    let text = std::fs::read_to_string("/proc/meminfo").unwrap_or_default();
+    let free = text.lines().find_map(|l| l.strip_prefix("MemAvailable:")?.trim().strip_suffix(" kB")?.parse::<usize>().ok());
+    free.is_some_and(|kilobytes| kilobytes > 4_000_000)
+}
+
+fn at_limits() {
+    limits::refuses_more();
+    let many = limits::limit("as many names as fill the text", limits::many_terms());
+    let one = limits::limit("one name that is the text", limits::one_term());
+    report::limits(&[many, one]);
+}
+
+fn main() {
+    let words: Vec<String> = std::env::args().skip(1).collect();
+    if let [what, call, documents, times] = &words[..] {
+        let (documents, times) = (documents.parse().expect("a number"), times.parse().expect("a number"));
+        if what == "again" {
+            return again::again(call, documents, times);
+        }
+        let size = compare::size(documents, times, Some(call));
+        report::whole(std::slice::from_ref(&size));
+        return report::apart(std::slice::from_ref(&size));
+    }
+    match &words[..] {
+        [only] if only == "limits" => return at_limits(),
+        [only] if only == "stack" => return report::stack(&depths()),
+        _ => {}
+    }
+    let code: usize = words.first().and_then(|word| word.parse().ok()).expect("the size of the code");
+    let quick = words.iter().any(|word| word == "--quick");
+
+    let sizes: Vec<compare::Size> = if quick {
+        vec![compare::size(1000, 5, None), compare::size(100_000, 5, None)]
+    } else {
+        vec![compare::size(1000, 15, None), compare::size(100_000, 11, None), compare::size(1_000_000, 3, None)]
+    };
+    let hostile = limits::hostile(if quick { 1 << 21 } else { 1 << 24 });
+
+    println!("## The data\n\n{}", text::DATA);
+    report::data(&sizes);
+    println!("\n## Every call, opened each time\n\n{}", text::WHOLE);
+    report::whole(&sizes);
+    println!("\n## The search apart from opening\n\n{}", text::APART);
+    report::apart(&sizes);
+    println!("\n## What was aimed at\n");
+    report::aims(&sizes[1]);
+    println!("\n## Growth with size\n\n{}", text::GROWTH);
+    report::growth(&sizes);
+    println!("\n## A hostile list\n\n{}", text::HOSTILE);
+    report::hostile(&hostile);
+    println!("\n## At the limits\n\n{}", text::LIMITS);
+    if quick || !roomy() {
+        println!("(Not run this time.)");
+    } else {
+        at_limits();
+    }
+    println!("\n## Stack and code\n\n{}", text::STACK);
+    report::stack(&depths());
+    println!("\nThe library's machine code has {} bytes.", report::grouped(code));
+}

@@ -1,0 +1,99 @@
+//! The original, twice: with its crc32fast, and with a table in its place.
+
+/// One module for each build of the original.
+macro_rules! original {
+    ($name:ident, $from:ident) => {
+        pub mod $name {
+            use crate::calls::{Answer, Call};
+            use crate::data::Lists;
+            use std::hint::black_box;
+            use $from::positional::raw::{write_positional_segment, RawPositionalSegment};
+            use $from::positional::{PositionalPosting, PositionalTermPostings};
+
+            pub type Segment<'a> = RawPositionalSegment<'a>;
+
+            pub fn open(bytes: &[u8]) -> Segment<'_> {
+                RawPositionalSegment::open(bytes).expect("opens")
+            }
+
+            /// The call on an open segment; its answer is dropped.
+            pub fn ask(call: &Call, s: &Segment<'_>) {
+                match call {
+                    Call::Open => {}
+                    Call::DocumentLengths => drop(black_box(s.document_lengths())),
+                    Call::DocumentLen(id) => drop(black_box(s.document_len(*id))),
+                    Call::Df(t) => drop(black_box(s.df(t))),
+                    Call::DocsWithTerm(t) => drop(black_box(s.docs_with_term(t).expect("decodes"))),
+                    Call::TermPostings(t) => drop(black_box(s.term_postings(t).expect("decodes"))),
+                    Call::Positions(t, id) => drop(black_box(s.positions(t, *id).expect("decodes"))),
+                    Call::Phrase(q) => drop(black_box(s.phrase_match_strs(&q.strs).expect("decodes"))),
+                    Call::NearMatch(a, b, w) => drop(black_box(s.near_match(a, b, *w).expect("decodes"))),
+                    Call::Near(q, w, ordered) => {
+                        drop(black_box(s.near_match_terms_strs(&q.strs, *w, *ordered).expect("decodes")))
+                    }
+                }
+            }
+
+            pub fn answer(call: &Call, s: &Segment<'_>) -> Answer {
+                let mut a = Answer::default();
+                match call {
+                    Call::Open => a.numbers.push(s.document_lengths().len() as u64),
+                    Call::DocumentLengths => {
+                        a.lists.push(s.document_lengths().iter().map(|d| d.0).collect());
+                        a.lists.push(s.document_lengths().iter().map(|d| d.1).collect());
+                    }
+                    Call::DocumentLen(id) => {
+                        let length = s.document_len(*id);
+                        a.numbers = vec![length.is_some() as u64, length.unwrap_or(0) as u64];
+                    }
+                    Call::Df(t) => a.numbers.push(s.df(t) as u64),
+                    Call::DocsWithTerm(t) => a.lists.push(s.docs_with_term(t).expect("decodes")),
+                    Call::TermPostings(t) => {
+                        let postings = s.term_postings(t).expect("decodes");
+                        a.lists.push(postings.iter().map(|p| p.doc_id).collect());
+                        a.lists.push(postings.iter().map(|p| p.positions.len() as u32).collect());
+                        a.lists.push(postings.iter().flat_map(|p| p.positions.iter().copied()).collect());
+                    }
+                    Call::Positions(t, id) => a.lists.push(s.positions(t, *id).expect("decodes")),
+                    Call::Phrase(q) => a.lists.push(s.phrase_match_strs(&q.strs).expect("decodes")),
+                    Call::NearMatch(x, y, w) => a.lists.push(s.near_match(x, y, *w).expect("decodes")),
+                    Call::Near(q, w, ordered) => a.lists.push(s.near_match_terms_strs(&q.strs, *w, *ordered).expect("decodes")),
+                }
+                a
+            }
+
+            /// What the original's writer takes, over the same lists.
+            pub struct Given<'a> {
+                documents: Vec<(u32, u32)>,
+                terms: Vec<PositionalTermPostings<'a>>,
+            }
+
+            pub fn given(l: &Lists) -> Given<'_> {
+                let documents = l.ids.iter().copied().zip(l.lengths.iter().copied()).collect();
+                let text = std::str::from_utf8(&l.text).expect("UTF-8");
+                let (mut name, mut posting, mut position) = (0, 0, 0);
+                let mut terms = Vec::with_capacity(l.ends.len());
+                for (&end, &count) in l.ends.iter().zip(&l.posting_counts) {
+                    let mut postings = Vec::with_capacity(count as usize);
+                    for _ in 0..count {
+                        let to = position + l.position_counts[posting] as usize;
+                        postings
+                            .push(PositionalPosting { doc_id: l.posting_ids[posting], positions: &l.positions[position..to] });
+                        posting += 1;
+                        position = to;
+                    }
+                    terms.push(PositionalTermPostings { term: &text[name..end as usize], postings });
+                    name = end as usize;
+                }
+                Given { documents, terms }
+            }
+
+            pub fn write(g: &Given<'_>) -> Vec<u8> {
+                write_positional_segment(&g.documents, &g.terms).expect("written")
+            }
+        }
+    };
+}
+
+original!(fast, postings_fast);
+original!(table, postings_table);

@@ -1,0 +1,132 @@
+//! The tables of docs/PERFORMANCE.md.
+use crate::compare::{Row, Size};
+use crate::limits::{Hostile, Limit};
+
+/// 1234567 as 1,234,567.
+pub fn grouped(n: usize) -> String {
+    let digits = n.to_string();
+    let mut out = String::new();
+    for (i, digit) in digits.chars().enumerate() {
+        if i > 0 && (digits.len() - i) % 3 == 0 {
+            out.push(',');
+        }
+        out.push(digit);
+    }
+    out
+}
+
+fn ratio(ours: f64, theirs: f64) -> String {
+    format!("{:.2}", ours / theirs)
+}
+
+fn line(cells: impl IntoIterator<Item = String>) {
+    println!("| {} |", cells.into_iter().collect::<Vec<_>>().join(" | "));
+}
+
+fn head(first: &str, rest: impl IntoIterator<Item = String>) {
+    let rest: Vec<String> = rest.into_iter().collect();
+    println!("| {first} | {} |", rest.join(" | "));
+    println!("|---|{}", "--:|".repeat(rest.len()));
+}
+
+fn columns(sizes: &[Size]) -> Vec<String> {
+    let of = |size: &Size| {
+        let n = grouped(size.documents);
+        [format!("{n}: Rust"), format!("{n}: with a table")]
+    };
+    sizes.iter().flat_map(of).collect()
+}
+
+pub fn data(sizes: &[Size]) {
+    head("Documents", ["postings", "positions", "bytes of segment"].map(String::from));
+    for size in sizes {
+        line([size.documents, size.postings, size.positions, size.bytes].map(grouped));
+    }
+}
+
+pub fn whole(sizes: &[Size]) {
+    head("Call", columns(sizes));
+    for (i, row) in sizes[0].rows.iter().enumerate() {
+        let ratios = sizes.iter().flat_map(|size| {
+            let [ours, quick, slow] = size.rows[i].whole;
+            [ratio(ours, quick), ratio(ours, slow)]
+        });
+        line([row.name.clone()].into_iter().chain(ratios));
+    }
+}
+
+/// The calls that decode lists; what the others answer, the Rust keeps from its open.
+pub fn apart(sizes: &[Size]) {
+    head("Call", columns(sizes));
+    let kept = ["open", "document_lengths", "document_len", "df", "write"];
+    for (i, row) in sizes[0].rows.iter().enumerate().filter(|(_, row)| !kept.contains(&&row.name[..])) {
+        let ratios = sizes.iter().flat_map(|size| {
+            let [ours, quick, slow] = size.rows[i].apart;
+            [ratio(ours, quick), ratio(ours, slow)]
+        });
+        line([row.name.clone()].into_iter().chain(ratios));
+    }
+}
+
+/// What was aimed at, for 100,000 documents.
+pub fn aims(size: &Size) {
+    let row = |name: &str| -> &Row { size.rows.iter().find(|row| row.name == name).expect("a call") };
+    let aim = |what: String, most: f64, seen: f64| {
+        let met = if seen <= most { "met" } else { "missed" };
+        line([what, format!("{most:.1}"), format!("{seen:.2}"), met.into()]);
+    };
+    head("Aim, at 100,000 documents", ["at most", "seen", ""].map(String::from));
+    let asked = ["phrase of 4", "phrase of 8", "near of 3, ordered", "near of 3, unordered"];
+    for name in asked {
+        let [ours, quick, _] = row(name).whole;
+        aim(format!("{name}, opened each time"), 1.0, ours / quick);
+    }
+    for name in asked {
+        let [ours, quick, _] = row(name).apart;
+        aim(format!("{name}, apart from opening"), 0.3, ours / quick);
+    }
+    let [ours, _, slow] = row("write").whole;
+    aim("write, against the Rust with a table".into(), 0.8, ours / slow);
+}
+
+/// Nanoseconds a document.
+pub fn growth(sizes: &[Size]) {
+    let of = |size: &Size| {
+        let n = grouped(size.documents);
+        [n.clone(), format!("{n}: Rust")]
+    };
+    head("Call", sizes.iter().flat_map(of));
+    for (i, row) in sizes[0].rows.iter().enumerate() {
+        let each = sizes.iter().flat_map(|size| {
+            let n = size.documents as f64;
+            let [ours, quick, _] = size.rows[i].whole;
+            [format!("{:.0}", ours / n), format!("{:.0}", quick / n)]
+        });
+        line([row.name.clone()].into_iter().chain(each));
+    }
+}
+
+pub fn limits(limits: &[Limit]) {
+    let names = ["terms", "bytes", "write, s", "of the Rust", "with a table", "open, s", "of the Rust", "with a table"];
+    head("Lists", names.map(String::from));
+    for l in limits {
+        let three = |[ours, quick, slow]: [f64; 3]| [format!("{:.1}", ours / 1e9), ratio(ours, quick), ratio(ours, slow)];
+        line([l.name.into(), grouped(l.terms), grouped(l.bytes)].into_iter().chain(three(l.write)).chain(three(l.open)));
+    }
+}
+
+pub fn hostile(all: &[Hostile]) {
+    head("Question", ["positions", "ns a position", "at twice as many", "at four times", "there, of the Rust"].map(String::from));
+    for h in all {
+        let each = h.times.iter().zip(&h.positions).map(|(time, n)| format!("{:.1}", time / *n as f64));
+        let last = ratio(h.times[h.times.len() - 1], h.original);
+        line([h.name.clone(), grouped(h.positions[0])].into_iter().chain(each).chain([last]));
+    }
+}
+
+pub fn stack(depths: &[(String, usize)]) {
+    head("Call", ["bytes of stack".to_string()]);
+    for (name, depth) in depths {
+        line([name.clone(), grouped(*depth)]);
+    }
+}

@@ -1,0 +1,38 @@
+//! What stands above the tables.
+
+pub const DATA: &str = "\
+Bars as a drum machine has them, from a generator that always gives the same (`bench/src/data.rs`): ids rise by 1 to 3; a bar has 16, 32, 48
+or 64 steps and 8 to 12 hits on any of its steps; a hit is one of 24 sounds, of which a few are frequent (closed hat 24, kick 20, snare 16 of
+121 hits) and most are rare (1 to 8); one bar in 32 also has a fill, eight sounds on consecutive steps. The phrases are the fill's first 2, 4
+and 8 sounds. The near questions ask for kick, snare and open hat within 4 steps, near_match for snare and clap.
+";
+
+pub const WHOLE: &str = "\
+Each call opens the segment, on both sides. Opening is a pass over all bytes for the checksums, so the two columns of a size differ most
+where a call does little else.
+";
+
+pub const APART: &str = "\
+The library's time is the call's less an open's, taken in the same round; the Rust's is that of the method on a segment that is open. Both
+check the lists' own checksums, decode them and search. (What the calls that are left out answer, the Rust keeps from its open.)
+";
+
+pub const GROWTH: &str = "\
+Nanoseconds a document, opened each time, on the machine that wrote this page: the library's, and the Rust's with crc32fast. A row that stays
+level is linear.
+";
+
+pub const HOSTILE: &str = "\
+One document. Two sounds alternate two steps apart, and the questions want them closer: none is found, and every position has to be looked at
+(up to 16,777,216 positions, half of each sound). Last, one sound in runs of 127 steps, and a phrase that names it 128 times. Level is linear.
+";
+
+pub const LIMITS: &str = "\
+16,777,216 elements, the limit of document 01, in every list that can have as many at once: ids, lengths, text, posting ids, position counts,
+positions. The ids are 255 apart, lengths and positions take five bytes each. One element more is refused with 12. Each segment was accepted,
+equals the Rust's byte for byte, opens, and the first, middle and last of its lists read back as the Rust reads them. Timed once.
+";
+
+pub const STACK: &str = "\
+The library allocates nothing. What a call touches of the stack, measured on a painted one, over 1,000 documents:
+";
