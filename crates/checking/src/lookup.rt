@@ -1,4 +1,4 @@
-// The length of a document, over its ids and lengths side by side.
+// The length of a document, over its ids and lengths side by side, and a hint where its id stands.
 ghost use mathlib.Core.Path.{_≡_};
 ghost use Prim.Native.Nat.{_≤_};
 ghost use lib.ListN.{length};
@@ -38,13 +38,10 @@ pub fn document_len(ids: &[u32], lengths: &[u32], id: u32, hint: usize) -> Docum
     DocumentLength::Unknown
 }
 
-// A hint for `document_len`: where the id stands, if that is at `from` or behind. A term's postings rise, so each document is near the one
-// before. Nothing is promised of it but that it comes, as `document_len` tests it.
-
 // So many ids are compared at once.
 const NEXT: usize = 8;
 
-// How many of the ids are lower. Every one is compared: no branch for the processor to guess.
+// How many of the ids are lower. Every one is compared, so that the processor has no branch to guess.
 fn lower_of(ids: &[u32], id: u32) -> usize
     ensures { λ r. ⌜ r ≤ length (now (ids .entry)) ⌝ }
 {
@@ -59,7 +56,7 @@ fn lower_of(ids: &[u32], id: u32) -> usize
     lower
 }
 
-// By halves.
+// By halves, between two places.
 fn place_within(ids: &[u32], id: u32, from: usize, to: usize) -> usize
     requires { ⌜ to ≤ length (now ids) ⌝ }
 {
@@ -94,7 +91,8 @@ fn place_behind(ids: &[u32], id: u32, from: usize) -> usize {
     low
 }
 
-// Among the next ids, else behind them.
+// A hint for `document_len`: where the id stands, if at `from` or behind. A term's postings rise, so each document is near the one before.
+// `document_len` tests it, so nothing is promised of the answer.
 pub fn place_from(ids: &[u32], id: u32, from: usize) -> usize {
     if from < ids.len() {
         if NEXT < ids.len() - from {
