@@ -137,7 +137,7 @@ fn questions(segment: &[u8]) {
 }
 
 // Bars (id 3, length 16), (7, 16). Kick: bar 3 on 0, 4, 15; bar 7 on 2. Snare: bar 3 on 8, 14; bar 7 on 3, 4.
-fn two_bars() {
+fn two_documents() {
     let mut out: [u8; 165] = [0; 165];
     let answer = write_positional_segment(
         &[3, 7],
@@ -171,7 +171,7 @@ fn two_bars() {
 }
 
 // No bars and no sounds: its bytes, opened whole and without the last.
-fn no_bars() {
+fn no_documents() {
     let mut out: [u8; 72] = [255; 72];
     let answer = write_positional_segment(&[], &[], b"", &[], &[], &[], &[], &[], &mut out);
     put(b"no bars, no sounds:");
@@ -195,7 +195,7 @@ fn count_up(from: u32, xs: &mut [u32]) {
 }
 
 // A bar of 128 steps with a kick on each, and questions of as many kicks as are allowed, and of one more.
-fn many_sounds() {
+fn many_terms() {
     let mut steps: [u32; 128] = [0; 128];
     count_up(0, &mut steps);
     let mut out: [u8; 239] = [0; 239];
@@ -235,7 +235,7 @@ fn too_many(segment: &[u8], text: &[u8], ends: &[u32]) {
 }
 
 fn main() {
-    two_bars();
-    no_bars();
-    many_sounds();
+    two_documents();
+    no_documents();
+    many_terms();
 }
