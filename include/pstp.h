@@ -181,7 +181,8 @@ pstp_reply pstp_positions(const uint8_t *segment, size_t segment_len, const uint
 pstp_reply pstp_phrase_match_strs(const uint8_t *segment, size_t segment_len, const uint8_t *text, size_t text_len,
                                   const uint32_t *ends, size_t ends_len, uint32_t *ids, size_t ids_len);
 
-/* Two names stand at most `window` positions apart, in any order: pstp_near_match_terms_strs with these two names and ordered false. */
+/* Two names stand at most `window` positions apart, in any order: pstp_near_match_terms_strs with these two names and ordered false,
+ * but that 12 goes by each name alone and 11 cannot occur. */
 pstp_reply pstp_near_match(const uint8_t *segment, size_t segment_len, const uint8_t *a, size_t a_len, const uint8_t *b, size_t b_len,
                            uint32_t window, uint32_t *ids, size_t ids_len);
 

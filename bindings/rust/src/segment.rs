@@ -93,13 +93,17 @@ impl<'a> RawPositionalSegment<'a> {
         Ok(front(positions, count as u64))
     }
 
-    /// Exact phrase match over borrowed term strings.
+    /// Exact phrase match over borrowed term strings: term i stands on start + i, for some start.
+    ///
+    /// A term that is named twice must stand twice. A phrase of no terms answers none.
     pub fn phrase_match_strs(&self, phrase: &[&str]) -> Result<Vec<DocId>, Error> {
         let names = Names::of(phrase)?;
         self.documents(|ids| sys::phrase_match_strs(self.bytes, &names, ids))
     }
 
-    /// Proximity match: returns docs where `a` and `b` occur within `window` tokens.
+    /// Proximity match: returns docs where `a` and `b` occur within `window` tokens, in any order.
+    ///
+    /// Where `a` is `b`, it must stand twice. A window of 0 answers none.
     pub fn near_match(&self, a: &str, b: &str, window: u32) -> Result<Vec<DocId>, Error> {
         self.documents(|ids| sys::near_match(self.bytes, a, b, window, ids))
     }
