@@ -6,8 +6,9 @@ use mathlib.Core.Bool.{true, false}
 use mathlib.Core.List.{List, [], _∷_, _++_}
 use Rattle.segment.specs.Results.{Result, ok}
 use Rattle.reading.specs.declared.replies.Counted.the-variants as counted
-use Rattle.search.specs.declared.document.Ask.the-variants as ask
-use Rattle.search.specs.Questions.{Rule, Phrase, Ordered, Unordered, search-text, search-two}
+use Rattle.walking.specs.declared.document.Ask.the-variants as ask
+use Rattle.rules.specs.Kinds.{Rule, Phrase, Ordered, Unordered}
+use Rattle.search.specs.Questions.{search-text, search-two}
 use Rattle.search.specs.Asked.{Text-answered, Two-answered, near-ask}
 use Rattle.table.specs.Through.{asking}
 use Rattle.table.specs.Segments.{kick, snare, segment-of-two}

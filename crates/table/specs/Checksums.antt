@@ -2,7 +2,7 @@
 use Prim.Native.Nat.{ℕ, _+_}
 use mathlib.Core.Path.{_≡_, refl}
 use mathlib.Core.List.{List, [], _∷_, _++_}
-use Rattle.codec.specs.Crc32.{crc32Of}
+use Rattle.checksum.specs.Crc32.{crc32Of}
 use Rattle.segment.specs.Results.{ok}
 use Rattle.segment.specs.Opening.{open-segment}
 use Rattle.table.specs.Through.{opening}

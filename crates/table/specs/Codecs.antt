@@ -2,8 +2,8 @@
 use mathlib.Core.Path.{_≡_, refl}
 use mathlib.Core.Bool.{true, false}
 use mathlib.Core.List.{[], _∷_}
-use Rattle.codec.specs.Crc32.{crc32Of}
-use Rattle.codec.specs.Utf8.{utf8}
+use Rattle.checksum.specs.Crc32.{crc32Of}
+use Rattle.encoding.specs.Utf8.{utf8}
 use Rattle.table.specs.Through.{checksum, text}
 
 -- the CRC-32 of nothing. Fails: no final complement

@@ -6,11 +6,11 @@ use mathlib.Core.Option.{none, some}
 use Rattle.opening.specs.declared.open_segment.Opened.the-variants as opened-as
 use Rattle.segment.specs.Results.{ok}
 use Rattle.segment.specs.Opening.{open-segment}
-use Rattle.opening.specs.Opened.{opened}
+use Rattle.opening.specs.Promise.{opened}
 use Rattle.reading.specs.declared.replies.Counted.the-variants as counted
-use Rattle.calls.specs.declared.replies.Length.the-variants as len
-use Rattle.calls.specs.Calls.{document-lengths, document-len}
-use Rattle.calls.specs.Answers.{Lengths-answered, length-answer}
+use Rattle.lengths.specs.declared.replies.Length.the-variants as len
+use Rattle.lengths.specs.Calls.{document-lengths, document-len}
+use Rattle.lengths.specs.Answers.{Lengths-answered, length-answer}
 use Rattle.table.specs.Through.{calling}
 use Rattle.table.specs.Sealing.{refused}
 use Rattle.table.specs.Segments.{segment-of-uneven}

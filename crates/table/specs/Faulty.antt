@@ -1,7 +1,7 @@
 -- Segments that open, with lists that do not decode.
 use Prim.Native.Nat.{ℕ}
 use mathlib.Core.List.{List, [], _∷_, _++_}
-use Rattle.codec.specs.Crc32.{crc32Of}
+use Rattle.checksum.specs.Crc32.{crc32Of}
 use Rattle.table.specs.Sealing.{sealed, entry}
 
 -- document (0, 1); a's list is 80 (7 5 0), b's is 00 00 (6 11 0)

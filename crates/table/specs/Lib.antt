@@ -8,6 +8,7 @@ pub mod Refusals
 pub mod Segments
 pub mod Written
 pub mod Not-written
+pub mod From-records
 -- Opening, in the order of its checks, and decoding:
 pub mod Headers
 pub mod Checksums
@@ -21,6 +22,8 @@ pub mod Term-reads
 pub mod Asked
 pub mod Near-misses
 pub mod Question-order
+-- The listing:
+pub mod Listed
 -- Kind 12, in all calls:
 pub mod Too-large
 -- What the cases are made of, and what they compute through:

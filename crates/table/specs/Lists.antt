@@ -5,7 +5,7 @@
 use Prim.Native.Nat.{ℕ, _+_}
 use mathlib.Core.Path.{_≡_, refl}
 use mathlib.Core.List.{List, [], _∷_}
-use Rattle.codec.specs.Crc32.{crc32Of}
+use Rattle.checksum.specs.Crc32.{crc32Of}
 use Rattle.segment.specs.Results.{Result, ok}
 use Rattle.segment.specs.Records.{Document, Posting}
 use Rattle.segment.specs.Postings.{decode}

@@ -3,7 +3,8 @@
 use mathlib.Core.Path.{_≡_, refl}
 use mathlib.Core.List.{[], _∷_, _++_}
 use Rattle.segment.specs.Results.{ok}
-use Rattle.search.specs.Questions.{Phrase, Ordered, Unordered, search-text, search-two}
+use Rattle.rules.specs.Kinds.{Phrase, Ordered, Unordered}
+use Rattle.search.specs.Questions.{search-text, search-two}
 use Rattle.table.specs.Through.{asking}
 use Rattle.table.specs.Sealing.{refused}
 use Rattle.table.specs.Segments.{a, b, segment-of-same-step}

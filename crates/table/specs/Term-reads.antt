@@ -4,10 +4,12 @@ use mathlib.Core.Path.{_≡_, refl}
 use mathlib.Core.List.{[], _∷_, _++_}
 use Rattle.segment.specs.Results.{ok}
 use Rattle.reading.specs.declared.replies.Counted.the-variants as counted
-use Rattle.calls.specs.declared.replies.Frequency.the-variants as frequency
-use Rattle.calls.specs.declared.replies.Listed.the-variants as listed
-use Rattle.calls.specs.Calls.{df, docs-with-term, term-postings, positions}
-use Rattle.calls.specs.Answers.{Docs-answered, Postings-answered, Positions-answered, df-answer}
+use Rattle.postings.specs.declared.replies.DocFreq.the-variants as frequency
+use Rattle.positions.specs.declared.replies.Listed.the-variants as listed
+use Rattle.postings.specs.Calls.{df, docs-with-term}
+use Rattle.positions.specs.Calls.{term-postings, positions}
+use Rattle.postings.specs.Answers.{Docs-answered, df-answer}
+use Rattle.positions.specs.Answers.{Postings-answered, Positions-answered}
 use Rattle.table.specs.Through.{calling}
 use Rattle.table.specs.Sealing.{refused, posting}
 use Rattle.table.specs.Segments.{hat, a, b, segment-of-uneven, segment-of-spread}

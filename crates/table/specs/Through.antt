@@ -1,7 +1,7 @@
 -- What the cases compute through, by what is computed. A definition that is named here is opened, and nothing is said of it.
 use Rattle.codec.specs.Leb128.{uleb128, chunks, encoded}
-use Rattle.codec.specs.Crc32.{plus, divided, bits, message, complement-first, number, crc32Of}
-use Rattle.codec.specs.Utf8.{sequences, starts, first-of, char-length, characters, utf8}
+use Rattle.checksum.specs.Crc32.{plus, divided, bits, message, complement-first, number, crc32Of}
+use Rattle.encoding.specs.Utf8.{sequences, starts, first-of, char-length, characters, utf8}
 use Rattle.segment.specs.Names.{same, precedes}
 use Rattle.segment.specs.Texts.{ends-fit, names}
 use Rattle.segment.specs.Metadata.{read-document, read-documents, metadata, length-of}
@@ -9,19 +9,25 @@ use Rattle.segment.specs.Directory.{part, read-list-range, read-entry, read-ent
 use Rattle.segment.specs.Postings.{read-value, read-position, read-positions, read-head, read-posting, read-postings, all-postings, decode, total-positions}
 use Rattle.segment.specs.Opening.{ranges, sections, section-checksum, checksums, contents, open-segment}
 use Rattle.reading.specs.Lookups.{named, postings-of, positions-of}
-use Rattle.calls.specs.Calls.{document-lengths, document-len, df, term-list, docs-with-term, term-postings, positions, joined-positions}
+use Rattle.lengths.specs.Calls.{document-lengths, document-len}
+use Rattle.postings.specs.Calls.{df, term-list, docs-with-term}
+use Rattle.positions.specs.Calls.{term-postings, positions, joined-positions}
 use Rattle.checking.specs.Given.{given, laid-flat}
-use Rattle.checking.specs.Checks.{small, shaped, check-documents, position-checks, check-positions, check-posting, check-postings, check-name, check-terms, check-given}
-use Rattle.writer.specs.Bytes.{metadata-bytes, position-bytes, posting-bytes, postings-bytes, directory-bytes, name-bytes, lists-bytes, segment-bytes}
-use Rattle.checking.specs.Checks.{check-lists}
+use Rattle.checking.specs.Checks.{small, shaped, check-documents, position-checks, check-positions, check-posting, check-postings, check-name, check-terms, check-given, check-lists}
+use Rattle.storing.specs.Bytes.{metadata-bytes, position-bytes, posting-bytes, postings-bytes, directory-bytes, name-bytes, lists-bytes, segment-bytes}
 use Rattle.writer.specs.Writing.{write}
-use Rattle.writer.specs.Back.{decode-all, decode-segment}
+use Rattle.segment.specs.Contents.{decode-all, decode-segment}
+use Rattle.records.specs.Entry.{write-records}
+use Rattle.lines.specs.Listing.{digits, column, name-column, count-line, document-line, entry-line, document-lines, entry-lines, refusal-line, listable, listing}
 use Rattle.joint.specs.Own.{own-of, own-under, documents-size, positions-size, postings-size, terms-size}
-use Rattle.search.specs.Members.{every, some-of, kept, joined}
-use Rattle.search.specs.Words.{mentions, within}
-use Rattle.search.specs.Rules.{phrase-at, chain-from, ordered, unordered-at, unordered}
-use Rattle.search.specs.Rules as rules
-use Rattle.search.specs.Questions.{under, different, decode-names, answer, answers, search, check-names, check-question, search-text, search-two}
+use Rattle.rules.specs.Members.{every, some-of, kept, joined}
+use Rattle.rules.specs.Words.{mentions, within}
+use Rattle.rules.specs.Rules.{phrase-at, chain-from, ordered, unordered-at, unordered}
+use Rattle.rules.specs.Rules as rules
+use Rattle.rules.specs.Different.{different}
+use Rattle.naming.specs.Named.{under, decode-names}
+use Rattle.naming.specs.Checks.{check-names, check-question, two-checks}
+use Rattle.search.specs.Questions.{answer, answers, search, search-text, search-two}
 
 unfoldable pub numbers : Unit {0}
 unfolding uleb128 encoded chunks
@@ -72,5 +78,13 @@ unfolding opening decoding named entry-of postings-of positions-of document-leng
 calling = tt
 
 unfoldable pub asking : Unit {0}
-unfolding opening decoding names ends-fit entry-of postings-of positions-of every some-of kept joined mentions within phrase-at rules.starts chain-from ordered unordered-at unordered under different decode-names answer answers search check-names check-question search-text search-two
+unfolding opening decoding names ends-fit entry-of postings-of positions-of every some-of kept joined mentions within phrase-at rules.starts chain-from ordered unordered-at unordered under different decode-names answer answers search check-names check-question two-checks search-text search-two
 asking = tt
+
+unfoldable pub from-records : Unit {0}
+unfolding write-records
+from-records = tt
+
+unfoldable pub listing-lines : Unit {0}
+unfolding opening listing listable refusal-line count-line document-lines document-line entry-lines entry-line name-column column digits
+listing-lines = tt

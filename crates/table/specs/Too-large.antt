@@ -5,8 +5,10 @@ use mathlib.Core.Path.{_≡_, refl}
 use mathlib.Core.List.{List, [], _∷_}
 use lib.ListN.{length, replicate}
 use Rattle.segment.specs.Results.{ok}
-use Rattle.calls.specs.Calls.{df, docs-with-term, term-postings, positions}
-use Rattle.search.specs.Questions.{Phrase, search-text, search-two}
+use Rattle.postings.specs.Calls.{df, docs-with-term}
+use Rattle.positions.specs.Calls.{term-postings, positions}
+use Rattle.rules.specs.Kinds.{Phrase}
+use Rattle.search.specs.Questions.{search-text, search-two}
 use Rattle.table.specs.Through.{writing, calling, asking}
 use Rattle.table.specs.Sealing.{refused}
 use Rattle.table.specs.Segments.{a, segment-of-uneven}

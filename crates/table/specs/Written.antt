@@ -6,8 +6,8 @@ use Rattle.segment.specs.Results.{ok}
 use Rattle.writer.specs.declared.write.Written.the-variants as written
 use Rattle.checking.specs.Given.{Lists, given, laid-flat}
 use Rattle.writer.specs.Writing.{write}
-use Rattle.writer.specs.Back.{decode-segment}
-use Rattle.writer.specs.Stores.{Wrote}
+use Rattle.segment.specs.Contents.{decode-segment}
+use Rattle.writer.specs.Promise.{Wrote}
 use Rattle.joint.specs.Own.{own, segment-size}
 use Rattle.table.specs.Through.{writing, measuring, owning, reading-back, flattening}
 use Rattle.table.specs.Sealing.{refused, document, posting}
