@@ -123,40 +123,46 @@ fn opened_without_last(segment: &[u8]) {
 }
 
 // The questions of document 01, put to the two bars.
-fn questions(segment: &[u8]) {
+fn phrases(segment: &[u8]) {
     phrase(b"kick snare", segment, b"kicksnare", &[4, 9]);
     phrase(b"kick snare snare", segment, b"kicksnaresnare", &[4, 9, 14]);
     phrase(b"snare", segment, b"snare", &[5]);
     phrase(b"kick tom", segment, b"kicktom", &[4, 7]);
-    near(b"kick snare", segment, b"kicksnare", &[4, 9], 3, true);
-    near(b"kick snare", segment, b"kicksnare", &[4, 9], 4, true);
+}
+
+fn kick_snare(segment: &[u8], window: u32, ordered: bool) {
+    near(
+        b"kick snare",
+        segment,
+        b"kicksnare",
+        &[4, 9],
+        window,
+        ordered,
+    );
+}
+
+fn snare_snare(segment: &[u8], window: u32) {
+    near(
+        b"snare snare",
+        segment,
+        b"snaresnare",
+        &[5, 10],
+        window,
+        false,
+    );
+}
+
+fn nears(segment: &[u8]) {
+    kick_snare(segment, 3, true);
+    kick_snare(segment, 4, true);
     near(b"snare kick", segment, b"snarekick", &[5, 9], 1, true);
-    near(b"kick snare", segment, b"kicksnare", &[4, 9], 1, false);
-    near(b"snare snare", segment, b"snaresnare", &[5, 10], 5, false);
-    near(b"snare snare", segment, b"snaresnare", &[5, 10], 6, false);
+    kick_snare(segment, 1, false);
+    snare_snare(segment, 5);
+    snare_snare(segment, 6);
 }
 
 // Bars (id 3, length 16), (7, 16). Kick: bar 3 on 0, 4, 15; bar 7 on 2. Snare: bar 3 on 8, 14; bar 7 on 3, 4.
-fn two_documents() {
-    let mut out: [u8; 165] = [0; 165];
-    let answer = write_positional_segment(
-        &[3, 7],
-        &[16, 16],
-        b"kicksnare",
-        &[4, 9],
-        &[2, 2],
-        &[3, 7, 3, 7],
-        &[3, 1, 2, 2],
-        &[0, 4, 15, 2, 8, 14, 3, 4],
-        &mut out,
-    );
-    put(b"two bars:");
-    put_written(answer);
-    let mut text = [0u8; 200];
-    write_listing(STDOUT_FILENO, &out, &mut text);
-    questions(&out);
-    put(b"one place short:");
-    let mut short: [u8; 164] = [0; 164];
+fn write_two(out: &mut [u8]) {
     put_written(write_positional_segment(
         &[3, 7],
         &[16, 16],
@@ -166,16 +172,32 @@ fn two_documents() {
         &[3, 7, 3, 7],
         &[3, 1, 2, 2],
         &[0, 4, 15, 2, 8, 14, 3, 4],
-        &mut short,
+        out,
     ));
 }
 
+fn two_documents() {
+    let mut out: [u8; 165] = [0; 165];
+    put(b"two bars:");
+    write_two(&mut out);
+    let mut text = [0u8; 200];
+    write_listing(STDOUT_FILENO, &out, &mut text);
+    phrases(&out);
+    nears(&out);
+    put(b"one place short:");
+    let mut short: [u8; 164] = [0; 164];
+    write_two(&mut short);
+}
+
 // No bars and no sounds: its bytes, opened whole and without the last.
+fn write_none(out: &mut [u8]) {
+    put_written(write_positional_segment(&[], &[], b"", &[], &[], &[], &[], &[], out));
+}
+
 fn no_documents() {
     let mut out: [u8; 72] = [255; 72];
-    let answer = write_positional_segment(&[], &[], b"", &[], &[], &[], &[], &[], &mut out);
     put(b"no bars, no sounds:");
-    put_written(answer);
+    write_none(&mut out);
     put_bytes(&out);
     put(b"\nits counts:");
     opened(&out);
@@ -194,12 +216,11 @@ fn count_up(from: u32, xs: &mut [u32]) {
     }
 }
 
-// A bar of 128 steps with a kick on each, and questions of as many kicks as are allowed, and of one more.
-fn many_terms() {
+// A bar of 128 steps with a kick on each.
+fn write_kicks(out: &mut [u8]) {
     let mut steps: [u32; 128] = [0; 128];
     count_up(0, &mut steps);
-    let mut out: [u8; 239] = [0; 239];
-    let answer = write_positional_segment(
+    put_written(write_positional_segment(
         &[1],
         &[128],
         b"k",
@@ -208,10 +229,15 @@ fn many_terms() {
         &[1],
         &[128],
         &steps,
-        &mut out,
-    );
+        out,
+    ));
+}
+
+// Questions of as many kicks as are allowed, and of one more.
+fn many_terms() {
+    let mut out: [u8; 239] = [0; 239];
     put(b"a bar of 128 kicks:");
-    put_written(answer);
+    write_kicks(&mut out);
     let mut ends: [u32; 128] = [0; 128];
     count_up(1, &mut ends);
     allowed(&out, &[b'k'; 128], &ends);

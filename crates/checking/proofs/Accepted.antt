@@ -9,8 +9,8 @@ use Prim.Native.Nat.{ℕ, _<_}
 use lib.Dec.{ltb}
 use lib.ListN.{length}
 use borrow.Author.Tests.{ltb-true, lt-ltb}
-use Rattle.codec.specs.Utf8.{utf8}
-use Rattle.codec.proofs.Text.{grammar-agrees}
+use Rattle.encoding.specs.Utf8.{utf8}
+use Rattle.encoding.proofs.Text.{grammar-agrees}
 use Rattle.segment.specs.Results.{ok}
 use Rattle.segment.specs.Records.{Document, Posting, Term, rises}
 use Rattle.segment.specs.Metadata.{length-of}
@@ -24,7 +24,7 @@ use Rattle.checking.specs.Acceptance.{Posting-fine, Term-fine}
 use Rattle.segment.specs.Elements.{_∈_, Rising}
 use Rattle.checking.proofs.Members.{each}
 use Rattle.checking.proofs.Rising.{After, after-none, after-cons, after-head, after-tail, rises-reaches, After-name, name-none, name-cons, name-head, name-tail}
-use Rattle.checking.proofs.Known.{known-gives, known-from}
+use Rattle.lookup.proofs.Known.{known-gives, known-from}
 
 abbrev pub ids : List Document → List ℕ
 ids ds = map (λ d. d .id) ds
@@ -91,7 +91,7 @@ module _ (documents : List Document) where
           of = d .of;
           known = d .known;
           same = d .same;
-          some = ltb-true 0 (length (p .positions)) (r₃ .0);
+          has-positions = ltb-true 0 (length (p .positions)) (r₃ .0);
           rising = ps .0;
           inside = λ x m. rw (d .length) (ps .1 x m);
         },
@@ -112,7 +112,7 @@ module _ (documents : List Document) where
         → check-posting documents previous p ≡ ok tt
     unfolding check-posting
     posting-from previous p up f =
-        rw (← f .same, known-from documents rise (f .of) (f .known), f .same, rises-reaches previous (p .doc) up, up, lt-ltb 0 (length (p .positions)) (f .some))
+        rw (← f .same, known-from documents rise (f .of) (f .known), f .same, rises-reaches previous (p .doc) up, up, lt-ltb 0 (length (p .positions)) (f .has-positions))
         (positions-from (f .of .len) none (p .positions) (f .rising) (f .inside))
 
     pub postings-from : (previous : Option ℕ) (ps : List Posting) → After previous (docs ps)
@@ -142,7 +142,7 @@ module _ (documents : List Document) where
         each (Term-fine documents) t ts (record {
           text = grammar-agrees (t .name) .0 (n₁ .0);
           named = ltb-true 0 (length (t .name)) (n₂ .0);
-          some = ltb-true 0 (length (t .postings)) (r₁ .0);
+          has-postings = ltb-true 0 (length (t .postings)) (r₁ .0);
           rising = ps .0;
           each = ps .1;
         }) (later .1),
@@ -158,7 +158,7 @@ module _ (documents : List Document) where
         grammar-agrees (t .name) .1 (h .text),
         lt-ltb 0 (length (t .name)) (h .named),
         name-head previous (t .name) (names-of ts) a,
-        lt-ltb 0 (length (t .postings)) (h .some),
+        lt-ltb 0 (length (t .postings)) (h .has-postings),
         postings-from documents rise none (t .postings) (h .rising) (h .each),
       )
       (terms-from rise (some (t .name)) ts (name-tail previous (t .name) (names-of ts) a) (λ k m. f k (inr m)))

@@ -5,10 +5,10 @@ use mathlib.Core.Bool.{Bool, true, false, _&&_}
 use Prim.Native.Nat.{ℕ}
 use native.Mathlib.Omega.{arith}
 use Rattle.segment.specs.declared.refusal.Refusal.{Refusal}
-use Rattle.segment.specs.declared.metadata.Checked.{Checked}
-use Rattle.segment.specs.declared.metadata.Checked.the-variants.{Passed, Refused}
+use Rattle.segment.specs.declared.checked.Checked.{Checked}
+use Rattle.segment.specs.declared.checked.Checked.the-variants.{Passed, Refused}
 use Rattle.segment.specs.Results.{Result, ok, refuse, _>>=_, check}
-use Rattle.segment.specs.Walks.{checked}
+use Rattle.segment.specs.Answers.{checked}
 use Rattle.segment.proofs.Binds.{refuse-ok}
 use Rattle.segment.proofs.Accepted as answers
 

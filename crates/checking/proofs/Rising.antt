@@ -4,9 +4,8 @@ use mathlib.Core.Path.{_≡_, refl}
 use mathlib.Core.Bool.{true}
 use mathlib.Core.List.{List, [], _∷_}
 use mathlib.Core.Option.{Option, none, some}
-use Prim.Native.Nat.{ℕ, zero, suc, _<_}
+use Prim.Native.Nat.{ℕ}
 use native.Mathlib.Omega.{arith}
-use lib.ListN.{length, getD}
 use borrow.Author.Tests.{ltb-true, lt-ltb, le-leb}
 use Rattle.segment.specs.Records.{rises}
 use Rattle.segment.specs.Directory.{follows}
@@ -14,8 +13,6 @@ use Rattle.segment.proofs.Strings.{precedes-is}
 use Rattle.checking.specs.Checks.{reaches}
 use Rattle.checking.specs.Acceptance.{Names-rising}
 use Rattle.segment.specs.Elements.{Rising}
-use Rattle.segment.proofs.Elements.{rising-tail}
-use Rattle.checking.specs.Flat.{Rises}
 
 -- ---- numbers
 
@@ -43,19 +40,6 @@ after-tail (some p) x xs r = r .1
 pub rises-reaches : (previous : Option ℕ) (x : ℕ) → rises previous x ≡ true → reaches previous x ≡ true
 rises-reaches none x t = refl
 rises-reaches (some p) x t = le-leb p x (omega (arith, ltb-true p x t))
-
--- all that comes after a number is greater, by place
-before-all : (x : ℕ) (xs : List ℕ) → Rising (x ∷ xs) → (j : ℕ) → j < length xs → x < getD xs j 0
-before-all x [] r j h = absurd (omega arith)
-before-all x (y ∷ ys) r zero h = r .0
-before-all x (y ∷ ys) r (suc j) h = omega (arith, r .0, before-all y ys (r .1) j (omega arith))
-
-pub rises-by-place : (xs : List ℕ) → Rising xs → Rises xs
-rises-by-place [] r i j h k = absurd (omega arith)
-rises-by-place (x ∷ xs) r zero zero h k = absurd (omega arith)
-rises-by-place (x ∷ xs) r zero (suc j) h k = before-all x xs r j (omega arith)
-rises-by-place (x ∷ xs) r (suc i) zero h k = absurd (omega arith)
-rises-by-place (x ∷ xs) r (suc i) (suc j) h k = rises-by-place xs (rising-tail x xs r) i j (omega arith) (omega arith)
 
 -- ---- names
 

@@ -3,9 +3,8 @@ use Prim.Native.Nat.{ℕ, _≤_, _<_}
 use mathlib.Core.Path.{_≡_}
 use mathlib.Core.List.{List, [], _∷_, map}
 use mathlib.Core.Logic.{_↔_}
-use mathlib.Core.Option.{some}
 use lib.ListN.{length}
-use Rattle.codec.specs.Utf8.{Is-utf8}
+use Rattle.encoding.specs.Utf8.{Is-utf8}
 use Rattle.segment.specs.Results.{ok}
 use Rattle.segment.specs.Records.{Document, Posting, Term}
 use Rattle.segment.specs.Names.{Before}
@@ -25,14 +24,14 @@ pub record Posting-fine (documents : List Document) (p : Posting) : Type 0 where
   pub of : Document
   pub known : of ∈ documents
   pub same : of .id ≡ p .doc
-  pub some : 0 < length (p .positions)
+  pub has-positions : 0 < length (p .positions)
   pub rising : Rising (p .positions)
   pub inside : (x : ℕ) → x ∈ p .positions → x < of .len
 
 pub record Term-fine (documents : List Document) (t : Term) : Type 0 where
   pub text : Is-utf8 (t .name)
   pub named : 0 < length (t .name)
-  pub some : 0 < length (t .postings)
+  pub has-postings : 0 < length (t .postings)
   pub rising : Rising (map (λ p. p .doc) (t .postings))
   pub each : (p : Posting) → p ∈ t .postings → Posting-fine documents p
 

@@ -6,15 +6,15 @@ use mathlib.Core.List.{List, [], _∷_}
 use mathlib.Core.Option.{Option, none, some}
 use lib.Dec.{ltb, leb, eqb}
 use lib.ListN.{length}
-use Rattle.codec.specs.Utf8.{utf8}
+use Rattle.encoding.specs.Utf8.{utf8}
 use Rattle.segment.specs.Refusals.{too-large, list-shape, invalid-utf8, invalid-layout, empty-term, empty-term-posting-list, empty-position-list, document-lengths-not-increasing, terms-not-increasing, posting-id-gap-underflow, posting-ids-not-increasing, position-gap-underflow, positions-not-increasing, written-position-exceeds-length}
-use Rattle.segment.specs.Results.{Result, ok, refuse, _>>=_, check}
-use Rattle.segment.specs.Records.{Document, Posting, Term, rises}
+use Rattle.segment.specs.Results.{Result, ok, _>>=_, check}
+use Rattle.segment.specs.Records.{Document, Posting, Term, rises, Given}
 use Rattle.segment.specs.Metadata.{length-of}
 use Rattle.segment.specs.Directory.{follows}
 use Rattle.segment.specs.Postings.{known}
 use Rattle.segment.specs.Texts.{ends-fit}
-use Rattle.checking.specs.Given.{Lists, Given, given, total}
+use Rattle.checking.specs.Given.{Lists, given, total}
 
 -- 12: a list or text handed in has over 16,777,216 elements
 unfoldable pub small : Lists → Bool

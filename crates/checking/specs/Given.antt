@@ -2,9 +2,10 @@
 use Prim.Native.Nat.{ℕ, _+_}
 use mathlib.Core.List.{List, [], _∷_, _++_, map}
 use lib.ListN.{length, take, drop}
-use Rattle.segment.specs.Records.{Document, Posting, Term}
+use Rattle.segment.specs.Records.{Document, Posting, Term, Given}
 use Rattle.segment.specs.Metadata.{document}
 use Rattle.segment.specs.Texts.{names}
+use Rattle.lookup.specs.Lookup.{paired}
 
 -- in the order in which the writer takes them
 pub record Lists : Type 0 where
@@ -17,16 +18,18 @@ pub record Lists : Type 0 where
   pub position-counts : List ℕ
   pub positions : List ℕ
 
--- documents, and terms with their postings (PositionalTermPostings)
-pub record Given : Type 0 where
-  pub documents : List Document
-  pub terms : List Term
-
--- two lists side by side
-abbrev pub paired : {A B C : Type 0} → (A → B → C) → List A → List B → List C
-paired f [] ys = []
-paired f (x ∷ xs) [] = []
-paired f (x ∷ xs) (y ∷ ys) = f x y ∷ paired f xs ys
+-- the eight by name, as contracts have them
+abbrev pub lists : (ids lengths text ends posting-counts posting-ids position-counts positions : List ℕ) → Lists
+lists i l t e pc pi kc ps = record {
+  ids = i;
+  lengths = l;
+  text = t;
+  ends = e;
+  posting-counts = pc;
+  posting-ids = pi;
+  position-counts = kc;
+  positions = ps;
+}
 
 -- a list cut into parts of these lengths
 abbrev pub parts : {A : Type 0} → (counts : List ℕ) → List A → List (List A)
@@ -53,7 +56,7 @@ abbrev pub total : List ℕ → ℕ
 total [] = 0
 total (c ∷ cs) = c + total cs
 
--- ---- the nested lists laid flat again. Crate writer, specs/Back.antt: of what was accepted, this gives the eight lists back
+-- ---- the nested lists laid flat again. Crate roundtrip, specs/Back.antt: of what was accepted, this gives the eight lists back
 
 abbrev pub joined : {A : Type 0} → List (List A) → List A
 joined [] = []

@@ -3,5 +3,5 @@ pub mod Given
 pub mod Checks
 -- The same in words, and what is claimed of it:
 pub mod Acceptance
--- The eight lists as contracts name them (`lists`), and what the code over them stands for:
-pub mod Flat
+-- What the code answers:
+pub mod Answers

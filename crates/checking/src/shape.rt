@@ -4,9 +4,8 @@ use segment::texts::ends_fit;
 ghost use mathlib.Core.Path.{_≡_};
 ghost use Prim.Native.Nat.{_≤_};
 ghost use lib.ListN.{length};
-ghost use Rattle.checking.specs.Given.{total};
+ghost use Rattle.checking.specs.Given.{total, lists};
 ghost use Rattle.checking.specs.Checks.{small, shaped};
-ghost use Rattle.checking.specs.Flat.{lists};
 
 fn wide(x: u32) -> u64
     ensures { λ r. ⌜ r ≡ x ⌝ }

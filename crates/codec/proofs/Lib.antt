@@ -1,12 +1,6 @@
--- Laws that belong to no one function, lowest first.
+-- Laws that belong to no one function, lowest first. Loops, Sets and Bytes are for every crate.
 pub mod Loops
 pub mod Sets
 pub mod Bytes
 pub mod Numbers
 pub mod Shortest
-pub mod Table
-pub mod Xor
-pub mod Registers
-pub mod Division
-pub mod Ranges
-pub mod Text

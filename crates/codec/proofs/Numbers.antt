@@ -60,21 +60,21 @@ unfolding uleb128
 size-pos [] r e = let z : _≡_ {A = ℕ} 0 1 = cc in omega arith
 size-pos (b ∷ l) r e = below-size b (uleb128 l) (ltb b 128) r e
 
--- four and five bytes: the value is below 2^32, and the code's sum is the value
+-- four and five bytes: the value is below 2^32, and the code's sum, over bytes that it has made wide, is the value
 pub four-lt : (a b c d : ℕ) → d < 128 → a % 128 + 128 * (b % 128 + 128 * (c % 128 + 128 * d)) < 2 ^ 32
 four-lt a b c d h = omega arith
 
-pub four-eq : (a b c d : ℕ) → d < 128
-    → a % 128 + b % 128 * 128 + c % 128 * 16384 + d % 128 * 2097152 ≡ a % 128 + 128 * (b % 128 + 128 * (c % 128 + 128 * d))
-four-eq a b c d h = omega arith
+pub four-eq : (a b c d : ℕ) {wc wd : ℕ} → wc ≡ c → wd ≡ d → d < 128
+    → a % 128 + b % 128 * 128 + wc % 128 * 16384 + wd % 128 * 2097152 ≡ a % 128 + 128 * (b % 128 + 128 * (c % 128 + 128 * d))
+four-eq a b c d is-c is-d h = rw (is-c, is-d) (omega arith)
 
 pub five-lt : (a b c d e : ℕ) → e < 16 → a % 128 + 128 * (b % 128 + 128 * (c % 128 + 128 * (d % 128 + 128 * e))) < 2 ^ 32
 five-lt a b c d e h = omega arith
 
-pub five-eq : (a b c d e : ℕ) → e < 16
-    → a % 128 + b % 128 * 128 + c % 128 * 16384 + d % 128 * 2097152 + e * 268435456
+pub five-eq : (a b c d e : ℕ) {wc wd we : ℕ} → wc ≡ c → wd ≡ d → we ≡ e → e < 16
+    → a % 128 + b % 128 * 128 + wc % 128 * 16384 + wd % 128 * 2097152 + we * 268435456
     ≡ a % 128 + 128 * (b % 128 + 128 * (c % 128 + 128 * (d % 128 + 128 * e)))
-five-eq a b c d e h = omega arith
+five-eq a b c d e is-c is-d is-e h = rw (is-c, is-d, is-e) (omega arith)
 
 five-ge : (a b c d e : ℕ) → 16 ≤ e → 2 ^ 32 ≤ a % 128 + 128 * (b % 128 + 128 * (c % 128 + 128 * (d % 128 + 128 * e)))
 five-ge a b c d e h = omega arith

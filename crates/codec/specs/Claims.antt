@@ -1,14 +1,11 @@
--- What is claimed of the definitions, each of every input; proved in proofs/Shortest.antt, proofs/Division.antt and proofs/Text.antt.
+-- What is claimed of the definition, each of every input; proved in proofs/Shortest.antt.
 use Prim.Native.Nat.{ℕ, _≤_, _<_, _^_}
 use mathlib.Core.Path.{_≡_}
-use mathlib.Core.List.{List, [], _∷_, _++_}
-use mathlib.Core.Bool.{Bool, true, false}
+use mathlib.Core.List.{List, _++_}
 use mathlib.Core.Option.{Option, some}
 use mathlib.Core.Logic.{_↔_}
-use lib.ListN.{length, replicate, getD}
+use lib.ListN.{length, getD}
 use Rattle.codec.specs.Leb128.{Leb, uleb128, stored, encoded}
-use Rattle.codec.specs.Crc32.{plus, generator, remainder}
-use Rattle.codec.specs.Utf8.{Is-utf8, utf8}
 
 abbrev pub leb-number : ℕ → ℕ → Leb
 leb-number v k = record { value = v; size = k }
@@ -30,22 +27,3 @@ Written-shortest = (x : ℕ) → x < 2 ^ 32 → Shortest-form x
 -- What is written is a stored number, whatever follows
 abbrev pub Read-back : Type 0
 Read-back = (x : ℕ) (rest : List ℕ) → x < 2 ^ 32 → stored (encoded x ++ rest) ≡ some (leb-number x (length (encoded x)))
-
--- The product of a polynomial and G = x^32 + generator, as many coefficients as q has and 32 more
-unfoldable pub times-G : List Bool → List Bool
-times-G [] = replicate 32 false
-times-G (false ∷ q) = false ∷ times-G q
-times-G (true ∷ q) = plus (true ∷ generator) (false ∷ times-G q)
-
--- r is the remainder of p by G: 32 coefficients, and p is a multiple of G plus r
-pub record Is-remainder (p r : List Bool) : Type 0 where
-  pub quotient : List Bool
-  pub size : length r ≡ 32
-  pub adds-up : p ≡ plus (times-G quotient) (replicate (length quotient) false ++ r)
-
-abbrev pub Divides : Type 0
-Divides = (p : List Bool) → 32 ≤ length p → Is-remainder p (remainder p)
-
--- The ABNF's test passes exactly on the texts of section 3
-abbrev pub Grammar-agrees : Type 0
-Grammar-agrees = (bytes : List ℕ) → (utf8 bytes ≡ true) ↔ Is-utf8 bytes

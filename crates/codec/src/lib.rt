@@ -1,8 +1,6 @@
-// The codecs under the segment format, each proved against its public document. Read in this order:
-//   varint  stored numbers, unsigned LEB128 (DWARF 5): specs/Leb128.antt
-//   crc32   the checksum, CRC-32 (IEEE 802.3): specs/Crc32.antt
-//   utf8    the encoding of names, UTF-8 (RFC 3629): specs/Utf8.antt
-// What the definitions promise of one another is stated in specs/Claims.antt.
-pub mod crc32;
-pub mod utf8;
+// Stored numbers, unsigned LEB128 (DWARF 5). Read in this order:
+//   specs/Leb128.antt    the numbers as DWARF decodes and encodes them, and which of them document 01 stores
+//   specs/Claims.antt    what is claimed of that definition
+//   varint               a reader that hands itself back moved on, and the writer
+// The lowest crate: proofs/ also has the laws of loops, bytes and stores that every crate above shares.
 pub mod varint;

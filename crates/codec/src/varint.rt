@@ -1,9 +1,10 @@
 // Stored numbers: unsigned LEB128 (DWARF 5, section 7.6) of one to five bytes, for values of 32 bits.
 ghost use mathlib.Core.Path.{_≡_};
 ghost use Prim.Native.Nat.{_+_, _≤_};
-ghost use lib.ListN.{length};
-ghost use Rattle.codec.specs.Leb128.{encoded};
-ghost use Rattle.codec.specs.Reading.{decodedAt, Encoded};
+ghost use lib.ListN.{length, drop};
+ghost use Rattle.codec.specs.declared.varint.Decoded.the-variants.{Value};
+ghost use Rattle.codec.specs.Leb128.{below, uleb128, limited, encoded};
+ghost use Rattle.codec.specs.Reading.{decoded, decodedAt, Encoded};
 
 // A place in a slice of bytes.
 pub struct Reader {
@@ -28,6 +29,50 @@ fn wide(x: u8) -> u32
     x as u32
 }
 
+// The number that was read, and the reader at the place past it.
+fn found(value: u32, at: usize) -> Decoded
+    ensures { λ r. ⌜ r ≡ Value (record { value = value; next = record { at = at } }) ⌝ }
+{
+    Decoded::Value(Number {
+        value: value,
+        next: Reader { at: at },
+    })
+}
+
+// A number at a place whose first two bytes, b0 and b1, say that more follow: three to five bytes, below 2^32.
+fn decode_long(s: &[u8], at: usize, b0: u32, b1: u32) -> Decoded
+    requires { ⌜ at + 2 ≤ length (now s) ⌝ }
+    ensures { λ r. ⌜ r ≡ decoded at (limited (below b0 (below b1 (uleb128 (drop (at + 2) (now (s .entry))))))) ⌝ }
+{
+    let at2 = at + 2;
+    if s.len() <= at2 {
+        return Decoded::Refused;
+    }
+    let b2 = wide(s[at2]);
+    let at3 = at2 + 1;
+    let x2 = b0 % 128 + b1 % 128 * 128 + b2 % 128 * 16384;
+    if b2 < 128 {
+        return found(x2, at3);
+    }
+    if s.len() <= at3 {
+        return Decoded::Refused;
+    }
+    let b3 = wide(s[at3]);
+    let at4 = at3 + 1;
+    let x3 = x2 + b3 % 128 * 2097152;
+    if b3 < 128 {
+        return found(x3, at4);
+    }
+    if s.len() <= at4 {
+        return Decoded::Refused;
+    }
+    let b4 = wide(s[at4]);
+    if 16 <= b4 {
+        return Decoded::Refused;
+    }
+    found(x3 + b4 * 268435456, at4 + 1)
+}
+
 impl Reader {
     // The number at the reader's place: one to five bytes, below 2^32; long forms of small numbers included.
     pub fn decode_u32(self, s: &[u8]) -> Decoded
@@ -40,58 +85,16 @@ impl Reader {
         let b0 = wide(s[at]);
         let at1 = at + 1;
         if b0 < 128 {
-            return Decoded::Value(Number {
-                value: b0,
-                next: Reader { at: at1 },
-            });
+            return found(b0, at1);
         }
         if s.len() <= at1 {
             return Decoded::Refused;
         }
         let b1 = wide(s[at1]);
-        let at2 = at1 + 1;
-        let x1 = b0 % 128 + b1 % 128 * 128;
         if b1 < 128 {
-            return Decoded::Value(Number {
-                value: x1,
-                next: Reader { at: at2 },
-            });
+            return found(b0 % 128 + b1 * 128, at1 + 1);
         }
-        if s.len() <= at2 {
-            return Decoded::Refused;
-        }
-        let b2 = wide(s[at2]);
-        let at3 = at2 + 1;
-        let x2 = x1 + b2 % 128 * 16384;
-        if b2 < 128 {
-            return Decoded::Value(Number {
-                value: x2,
-                next: Reader { at: at3 },
-            });
-        }
-        if s.len() <= at3 {
-            return Decoded::Refused;
-        }
-        let b3 = wide(s[at3]);
-        let at4 = at3 + 1;
-        let x3 = x2 + b3 % 128 * 2097152;
-        if b3 < 128 {
-            return Decoded::Value(Number {
-                value: x3,
-                next: Reader { at: at4 },
-            });
-        }
-        if s.len() <= at4 {
-            return Decoded::Refused;
-        }
-        let b4 = wide(s[at4]);
-        if 16 <= b4 {
-            return Decoded::Refused;
-        }
-        Decoded::Value(Number {
-            value: x3 + b4 * 268435456,
-            next: Reader { at: at4 + 1 },
-        })
+        decode_long(s, at, b0, b1)
     }
 }
 

@@ -13,7 +13,7 @@ use Rattle.joint.specs.Demand.{No-refusal}
 use Rattle.joint.proofs.Sizes.{segment-length}
 
 module _ (l : Lists) (room : ℕ) where
-  refusals-agree : writer.No-refusal l room ↔ No-refusal l room
+  refusals-agree : writer.Writable l room ↔ No-refusal l room
   refusals-agree = (
     λ n. record { lists = n .lists; room-enough = rw segment-length at (n .room-enough) },
     λ n. record { lists = n .lists; room-enough = rw segment-length (n .room-enough) },

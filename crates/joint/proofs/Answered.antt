@@ -8,22 +8,23 @@ use native.Mathlib.Omega.{arith}
 use lib.Dec.{leb}
 use lib.ListN.{length}
 use borrow.Author.Tests.{le-leb, lt-leb}
-use Rattle.codec.specs.Utf8.{Is-utf8}
+use Rattle.encoding.specs.Utf8.{Is-utf8}
 use Rattle.segment.specs.Refusals.{no-room}
 use Rattle.segment.specs.Results.{Result, ok, refuse, _>>=_, check}
 use Rattle.segment.specs.Texts.{names}
 use Rattle.checking.specs.Given.{Lists, given}
 use Rattle.checking.specs.Acceptance.{Lists-fine}
-use Rattle.writer.specs.Bytes.{segment-bytes}
-use Rattle.writer.specs.Back.{Typed}
-use Rattle.writer.proofs.PostingsBack.{list-back}
-use Rattle.writer.proofs.ReadsBack.{opened, numbers-fit, few-positions}
+use Rattle.storing.specs.Bytes.{segment-bytes}
+use Rattle.roundtrip.specs.Back.{Typed}
+use Rattle.roundtrip.proofs.PostingsBack.{list-back}
+use Rattle.roundtrip.proofs.ReadsBack.{opened, numbers-fit, few-positions}
 use Rattle.segment.specs.Elements.{_∈_}
-use Rattle.search.specs.Questions.{Rule, Unordered, search, search-text, search-two}
-use Rattle.search.specs.Claims.{Well-formed, Enough}
-use Rattle.search.proofs.Well-formed.{names-pass, passes-exactly}
+use Rattle.rules.specs.Kinds.{Rule, Unordered, Enough}
+use Rattle.search.specs.Questions.{search, search-text, search-two}
+use Rattle.naming.specs.Checks.{Well-formed, two-checks}
+use Rattle.naming.proofs.Well-formed.{names-pass, passes-exactly}
 use Rattle.segment.proofs.Shapes.{names-count}
-use Rattle.search.proofs.Answering.{awake-is}
+use Rattle.rules.proofs.Idle.{awake-is}
 use Rattle.joint.proofs.Lookups-back.{Decodes, answers-back}
 use Rattle.joint.proofs.Meeting.{ids-of}
 
@@ -63,7 +64,7 @@ module _ (l : Lists) (typed : Typed l) (fine : Lists-fine l) where
   pub two-answers : (window : ℕ) (a b : List ℕ) → length a ≤ 16777216 → length b ≤ 16777216 → Is-utf8 a → Is-utf8 b → 1 ≤ window
       → (places : ℕ)
       → search-two (segment-bytes (given l)) window a b places ≡ roomed (ids-of l (Unordered window) (a ∷ b ∷ [])) places
-  unfolding search-two
+  unfolding search-two two-checks
   two-answers window a b short-a short-b text-a text-b some places =
       rw (le-leb (length a) 16777216 short-a, le-leb (length b) 16777216 short-b, names-pass (a ∷ b ∷ []) .1 each)
       (search-answers (Unordered window) (a ∷ b ∷ []) (omega arith, some) places)

@@ -1,15 +1,14 @@
 -- From what the writer and the search answer to the claim about a call that writes and then asks.
 -- Assumes nothing.
-use mathlib.Core.Path.{_≡_, refl, sym, ap, _∙_}
+use mathlib.Core.Path.{_≡_, refl, sym, ap, _∙_, subst}
 use mathlib.Core.Bool.{Bool, true, false}
-use mathlib.Core.List.{List, [], _∷_}
+use mathlib.Core.List.{List}
 use Prim.Native.Nat.{ℕ, _≤_}
 use native.Mathlib.Omega.{arith}
 use lib.ListN.{length, take, drop, length-append}
 use lib.Seq.{take-append-seam}
 use Rattle.segment.specs.declared.refusal.Refusal.{Refusal}
 use Rattle.segment.specs.Results.{Result, ok, refuse}
-use Rattle.segment.specs.Texts.{names}
 use Rattle.reading.specs.declared.replies.Counted.{Counted}
 use Rattle.reading.specs.declared.replies.Counted.the-variants as counted
 use Rattle.reading.specs.Answers.{fronted, filled, count-of}
@@ -17,14 +16,17 @@ use Rattle.writer.specs.declared.write.Written.{Written}
 use Rattle.writer.specs.declared.write.Written.the-variants as written
 use Rattle.checking.specs.Given.{Lists}
 use Rattle.writer.specs.Writing.{write}
-use Rattle.writer.specs.Back.{Typed}
-use Rattle.writer.specs.Stores.{Wrote, length-of-written, slice-after}
-use Rattle.search.specs.declared.document.Ask.{Ask}
-use Rattle.search.specs.Questions.{Rule, Unordered, search-text, search-two}
-use Rattle.search.specs.Standing.{rule-of}
+use Rattle.roundtrip.specs.Back.{Typed}
+use Rattle.writer.specs.Promise.{Wrote, length-of-written, slice-after}
+use Rattle.walking.specs.declared.document.Ask.the-variants as ask
+use Rattle.rules.specs.Kinds.{Rule, Phrase}
+use Rattle.walking.specs.Asks.{rule-of as ask-rule}
 use Rattle.search.specs.Asked.{near-ask, Text-answered, Two-answered}
+use Rattle.joint.specs.declared.ask.Question.{Question}
+use Rattle.joint.specs.declared.ask.Question.the-variants as question
 use Rattle.joint.specs.declared.ask.Asked.the-variants as asked
-use Rattle.joint.specs.Demand.{Listed, Demand-3, Proper-text, Proper-two, near-rule}
+use Rattle.joint.specs.Demand.{Listed, Demand-3, near-rule, rule-of, names-of, Proper}
+use Rattle.joint.specs.Called.{put-to, Put}
 use Rattle.joint.proofs.Accepting.{accepts}
 use Rattle.joint.proofs.Demanded.{written-back, listed, listed-two}
 
@@ -49,6 +51,10 @@ module _ (l : Lists) (out : List ℕ) {w : Written} {out′ : List ℕ} (wrote :
   pub wrote-bytes : {n : ℕ} → w ≡ written.Length n → Wrote-bytes l out n out′
   wrote-bytes {n} e = wrote-if l out n out′ (write l (length out)) refl (sym (wrote .reply) ∙ e) (wrote .left)
 
+  -- the promise, of the reply that was matched
+  pub promised : {v : Written} → w ≡ v → Wrote l out v out′
+  promised e = subst (λ (r : Written). Wrote l out r out′) e wrote
+
   -- the call's slice is as long as before
   pub refused-claim : (rule : Rule) (ns : List (List ℕ)) (Proper : Type 0) (found : List ℕ) {x : Refusal} → w ≡ written.Refused x
       → Demand-3 l out rule ns Proper found (asked.NotWritten x) out′ found
@@ -60,7 +66,7 @@ module _ (l : Lists) (out : List ℕ) {w : Written} {out′ : List ℕ} (wrote :
           λ fine. let b = accepts l (length out) .1 fine in let is = sym r ∙ b .1 in let z : _≡_ {A = ℕ} 0 1 = cc in absurd (omega arith),
         );
         refuses = λ x is. (wrote .left ∙ ap (λ r. slice-after r out) r, refl);
-        unasked = λ n x is. let z : _≡_ {A = ℕ} 0 1 = cc in absurd (omega arith);
+        search-refuses = λ n x is. let z : _≡_ {A = ℕ} 0 1 = cc in absurd (omega arith);
         gives-back = λ n c is. let z : _≡_ {A = ℕ} 0 1 = cc in absurd (omega arith);
         lists = λ n c is. let z : _≡_ {A = ℕ} 0 1 = cc in absurd (omega arith);
       }
@@ -87,34 +93,46 @@ module _ (l : Lists) (out : List ℕ) (typed : Typed l) {n : ℕ} {out′ : List
   answered-claim rule ns Proper found c found′ alone lists = record {
     accepts = (λ a. accepts l (length out) .0 (w .bytes, w .answer), λ fine. (n, c, refl));
     refuses = λ x is. let z : _≡_ {A = ℕ} 0 1 = cc in absurd (omega arith);
-    unasked = λ m x is. let e : c ≡ counted.Refused x = cc in alone x e;
+    search-refuses = λ m x is. let e : c ≡ counted.Refused x = cc in alone x e;
     gives-back = λ m d is.
         let same : n ≡ m = cc in
         rw (sym same, w .long, w .left) (written-back l out (w .bytes) typed (w .answer));
     lists = λ m d is proper. let same : c ≡ d = cc in rw (sym same) (lists proper);
   }
 
-  pub text-claim : (a : Ask) (rule : Rule) → rule-of a ≡ rule → (text ends found : List ℕ) {c : Counted} {found′ : List ℕ}
-      → Text-answered (take n out′) a text ends found c found′
-      → Demand-3 l out rule (names 0 ends text) (Proper-text rule text ends) found (asked.Answer n c) out′ found′
-  text-claim a rule is text ends found {c} {found′} t =
-      answered-claim rule (names 0 ends text) (Proper-text rule text ends) found c found′
-      (λ x e. t .left ∙ left-alone (search-text (take n out′) (rule-of a) text ends (length found)) found (sym (t .reply) ∙ e))
-      (λ proper.
-      rw (t .reply, t .left, asked-bytes, is)
-      (listed l (length out) (w .bytes) typed (w .answer) rule text ends (proper .well-formed) (proper .enough) found))
+  -- what is listed to each question that demand 3 names
+  listed-to : (q : Question) (name ends other found : List ℕ) → Proper q name ends other
+      → Listed l (rule-of q) (names-of q name ends other) found (count-of (put-to (w .bytes) q name ends other (length found)))
+      (filled (λ xs. xs) (put-to (w .bytes) q name ends other (length found)) found)
+  listed-to question.Phrase name ends other found proper =
+      listed l (length out) (w .bytes) typed (w .answer) Phrase name ends (proper .well-formed) (proper .enough) found
+  listed-to (question.Near window ordered) name ends other found proper =
+      listed l (length out) (w .bytes) typed (w .answer) (near-rule ordered window) name ends (proper .well-formed) (proper .enough) found
+  listed-to (question.Two window) name ends other found proper =
+      listed-two l (length out) (w .bytes) typed (w .answer) window name other
+      (proper .small-a) (proper .small-b) (proper .text-a) (proper .text-b) (proper .some-window) found
 
-  pub two-claim : (window : ℕ) (a b found : List ℕ) {c : Counted} {found′ : List ℕ}
-      → Two-answered (take n out′) window a b found c found′
-      → Demand-3 l out (Unordered window) (a ∷ b ∷ []) (Proper-two window a b) found (asked.Answer n c) out′ found′
-  two-claim window a b found {c} {found′} t =
-      answered-claim (Unordered window) (a ∷ b ∷ []) (Proper-two window a b) found c found′
-      (λ x e. t .left ∙ left-alone (search-two (take n out′) window a b (length found)) found (sym (t .reply) ∙ e))
-      (λ proper.
-      rw (t .reply, t .left, asked-bytes)
-      (listed-two l (length out) (w .bytes) typed (w .answer) window a b
-      (proper .small-a) (proper .small-b) (proper .text-a) (proper .text-b) (proper .some-window) found))
+  pub asked-claim : (q : Question) (name ends other found : List ℕ) {c : Counted} {found′ : List ℕ}
+      → Put (take n out′) q name ends other found c found′
+      → Demand-3 l out (rule-of q) (names-of q name ends other) (Proper q name ends other) found (asked.Answer n c) out′ found′
+  asked-claim q name ends other found {c} {found′} p =
+      answered-claim (rule-of q) (names-of q name ends other) (Proper q name ends other) found c found′
+      (λ x e. p .left ∙ left-alone (put-to (take n out′) q name ends other (length found)) found (sym (p .reply) ∙ e))
+      (λ proper. rw (p .reply, p .left, asked-bytes) (listed-to q name ends other found proper))
 
-pub near-same : (ordered : Bool) (window : ℕ) → rule-of (near-ask ordered window) ≡ near-rule ordered window
+-- ---- the search's calls, as what they answer to a question
+
+near-same : (ordered : Bool) (window : ℕ) → ask-rule (near-ask ordered window) ≡ near-rule ordered window
 near-same true window = refl
 near-same false window = refl
+
+module _ {bytes name ends other found : List ℕ} {c : Counted} {found′ : List ℕ} where
+  pub put-phrase : Text-answered bytes ask.Phrase name ends found c found′ → Put bytes question.Phrase name ends other found c found′
+  put-phrase t = record { reply = t .reply; left = t .left }
+
+  pub put-near : (window : ℕ) (ordered : Bool) → Text-answered bytes (near-ask ordered window) name ends found c found′
+      → Put bytes (question.Near window ordered) name ends other found c found′
+  put-near window ordered t = record { reply = rw (← near-same ordered window) (t .reply); left = rw (← near-same ordered window) (t .left) }
+
+  pub put-two : {window : ℕ} → Two-answered bytes window name other found c found′ → Put bytes (question.Two window) name ends other found c found′
+  put-two t = record { reply = t .reply; left = t .left }

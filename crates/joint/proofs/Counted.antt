@@ -7,18 +7,18 @@ use Prim.Native.Nat.{ℕ, _+_}
 use native.Mathlib.Omega.{arith}
 use lib.Dec.{eqb}
 use lib.ListN.{length}
-use Rattle.codec.specs.Crc32.{crc32Of}
+use Rattle.checksum.specs.Crc32.{crc32Of}
 use Rattle.segment.specs.Results.{Result, ok, refuse}
-use Rattle.segment.specs.Records.{Document, Posting, Term, Entry, Segment}
+use Rattle.segment.specs.Records.{Document, Posting, Term, Entry, Segment, Given}
 use Rattle.segment.specs.Postings.{decode, total-positions}
-use Rattle.segment.specs.Spots.{Spot, held-postings}
+use Rattle.decoding.specs.Spots.{Spot, held-postings}
 use Rattle.segment.specs.Opening.{open-segment}
 use Rattle.segment.proofs.Binds.{ok-same, bind-gives}
 use Rattle.segment.proofs.Accepted.{check-gives}
-use Rattle.segment.proofs.Posting-reads.{all-postings-read}
+use Rattle.decoding.proofs.Posting-reads.{all-postings-read}
 use Rattle.reading.proofs.Longer.{read-counts}
-use Rattle.checking.specs.Given.{Given}
-use Rattle.writer.specs.Back.{decode-all, decode-segment, all-position-counts}
+use Rattle.roundtrip.specs.Back.{all-position-counts}
+use Rattle.segment.specs.Contents.{decode-all, decode-segment}
 use Rattle.joint.specs.Stored.{counts-stored, entry-counts, position-counts-of}
 
 -- counts alike add up alike

@@ -6,20 +6,21 @@ use Prim.Native.Nat.{ℕ, _≤_}
 use native.Mathlib.Omega.{arith}
 use lib.ListN.{length, drop}
 use lib.Seq.{take-append-seam, drop-append-seam}
-use Rattle.codec.specs.Utf8.{Is-utf8}
+use Rattle.encoding.specs.Utf8.{Is-utf8}
 use Rattle.segment.specs.Results.{Result, ok}
 use Rattle.segment.specs.Texts.{names}
 use Rattle.reading.specs.Answers.{fronted, filled, count-of}
 use Rattle.checking.specs.Given.{Lists}
 use Rattle.checking.specs.Acceptance.{Lists-fine}
 use Rattle.writer.specs.Writing.{write}
-use Rattle.writer.specs.Back.{Typed}
+use Rattle.roundtrip.specs.Back.{Typed}
 use Rattle.writer.proofs.Accepts.{accepted-gives, accepted-is}
-use Rattle.writer.proofs.ReadsBack.{reads-back}
-use Rattle.search.specs.Questions.{Rule, Unordered, search-text, search-two}
-use Rattle.search.specs.Claims.{Well-formed, Enough}
+use Rattle.roundtrip.proofs.ReadsBack.{reads-back}
+use Rattle.rules.specs.Kinds.{Rule, Unordered, Enough}
+use Rattle.search.specs.Questions.{search-text, search-two}
+use Rattle.naming.specs.Checks.{Well-formed}
 use Rattle.segment.proofs.Shapes.{names-count}
-use Rattle.search.proofs.Answering.{some-named}
+use Rattle.rules.proofs.Idle.{some-named}
 use Rattle.joint.specs.Demand.{Given-back, Listed}
 use Rattle.joint.proofs.Meeting.{those-unique, ids-of, those-are}
 use Rattle.joint.proofs.Sizes.{segment-length}

@@ -14,10 +14,13 @@ use Rattle.segment.specs.Directory.{entry-of}
 use Rattle.segment.specs.Postings.{decode}
 use Rattle.reading.specs.Lookups.{found, postings-of}
 use Rattle.segment.proofs.Binds.{ok-same}
-use Rattle.writer.proofs.PostingsBack.{entry-for}
+use Rattle.roundtrip.proofs.PostingsBack.{entry-for}
 use Rattle.segment.specs.Elements.{_∈_}
-use Rattle.search.specs.Questions.{Rule, idle, under, different, decode-names, answer, answers}
-use Rattle.search.proofs.Decoding.{term, asked-under}
+use Rattle.rules.specs.Kinds.{Rule, idle}
+use Rattle.rules.specs.Different.{different}
+use Rattle.naming.specs.Named.{under, decode-names}
+use Rattle.search.specs.Questions.{answer, answers}
+use Rattle.naming.proofs.Decoding.{term, asked-under}
 use Rattle.search.proofs.Answering.{answer-same, answers-found}
 
 abbrev pub Decodes : List Document → List Term → Type 0

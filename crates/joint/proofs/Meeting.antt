@@ -8,10 +8,11 @@ use Prim.Native.Nat.{ℕ, _<_}
 use lib.ListN.{length}
 use Rattle.checking.specs.Given.{Lists, given}
 use Rattle.checking.specs.Acceptance.{Lists-fine}
-use Rattle.search.specs.Questions.{Rule, meets, Meets, answer}
-use Rattle.search.specs.Questions as search
-use Rattle.search.proofs.Rising.{rising-unique}
-use Rattle.search.proofs.Rules-hold.{rules-agree}
+use Rattle.rules.specs.Kinds.{Rule, meets, Meets}
+use Rattle.search.specs.Questions.{answer}
+use Rattle.naming.specs.Named as search
+use Rattle.rules.proofs.Rising.{rising-unique}
+use Rattle.rules.proofs.Rules-hold.{rules-agree}
 use Rattle.search.proofs.Answering.{answer-are, answer-rises}
 use Rattle.joint.specs.Own.{own}
 use Rattle.joint.specs.Demand.{Those-that-meet}

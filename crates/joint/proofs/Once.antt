@@ -16,9 +16,9 @@ use Rattle.reading.specs.Lookups.{positions-of}
 use Rattle.checking.specs.Given.{Lists, given}
 use Rattle.checking.specs.Acceptance.{Names-rising, Lists-fine}
 use Rattle.segment.specs.Elements.{_∈_, Rising}
-use Rattle.search.specs.Questions as search
+use Rattle.naming.specs.Named as search
 use Rattle.segment.proofs.Elements.{rising-tail, rising-above}
-use Rattle.search.proofs.Answering.{docs}
+use Rattle.walking.proofs.Posted.{docs}
 use Rattle.joint.specs.Own.{own-of, own-under, own}
 
 none-of : (ps : List Posting) (d : ℕ) → ((x : ℕ) → x ∈ docs ps → d < x) → own-of ps d ≡ []

@@ -11,9 +11,9 @@ use Rattle.segment.specs.Records.{Posting, Term}
 use Rattle.segment.specs.Names.{same}
 use Rattle.segment.proofs.Strings.{same-is}
 use Rattle.checking.specs.Given.{Lists, given}
-use Rattle.search.specs.Members.{kept, joined}
+use Rattle.rules.specs.Members.{kept, joined}
 use Rattle.segment.specs.Elements.{_∈_}
-use Rattle.search.proofs.Membership.{joined-gives, joined-from, map-gives, kept-gives, kept-from}
+use Rattle.rules.proofs.Membership.{joined-gives, joined-from, map-gives, kept-gives, kept-from}
 use Rattle.segment.proofs.Elements.{map-from}
 use Rattle.joint.specs.Own.{own-of, own-under, own, Stands, Own-exactly}
 

@@ -12,8 +12,8 @@ use native.Mathlib.Omega.{arith}
 use lib.ListN.{length, length-append}
 use Rattle.segment.specs.Records.{Document, Posting, Term}
 use Rattle.checking.specs.Given.{Lists, given}
-use Rattle.writer.specs.Bytes.{gap, metadata-bytes, position-bytes, posting-bytes, postings-bytes, directory-bytes, name-bytes, lists-bytes, segment-bytes}
-use Rattle.writer.proofs.DirectoryBack.{directory-length}
+use Rattle.storing.specs.Bytes.{gap, metadata-bytes, position-bytes, posting-bytes, postings-bytes, directory-bytes, name-bytes, lists-bytes, segment-bytes}
+use Rattle.writer.proofs.Lengths.{directory-length}
 use Rattle.joint.specs.Own.{gap-from, number-size, documents-size, positions-size, postings-size, terms-size, segment-size, Posting-takes}
 
 gap-same : (previous : Option ℕ) (v : ℕ) → gap previous v ≡ gap-from previous v

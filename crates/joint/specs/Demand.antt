@@ -3,21 +3,24 @@
 use Prim.Native.Nat.{ℕ, _≤_}
 use mathlib.Core.Path.{_≡_}
 use mathlib.Core.Bool.{Bool, true, false}
-use mathlib.Core.List.{List, _++_, map}
+use mathlib.Core.List.{List, [], _∷_, _++_, map}
 use mathlib.Core.Logic.{_↔_}
 use lib.ListN.{length, take, drop}
-use Rattle.codec.specs.Utf8.{Is-utf8}
+use Rattle.encoding.specs.Utf8.{Is-utf8}
 use Rattle.segment.specs.declared.refusal.Refusal.{Refusal}
 use Rattle.segment.specs.Results.{ok}
+use Rattle.segment.specs.Texts.{names}
 use Rattle.segment.specs.Opening.{open-segment}
 use Rattle.reading.specs.declared.replies.Counted.{Counted}
 use Rattle.reading.specs.declared.replies.Counted.the-variants as counted
 use Rattle.checking.specs.Given.{Lists, given, laid-flat}
 use Rattle.checking.specs.Acceptance.{Lists-fine}
-use Rattle.writer.specs.Back.{decode-segment}
+use Rattle.segment.specs.Contents.{decode-segment}
 use Rattle.segment.specs.Elements.{_∈_, Rising}
-use Rattle.search.specs.Questions.{Rule, Ordered, Unordered, Meets}
-use Rattle.search.specs.Claims.{Well-formed, Enough}
+use Rattle.rules.specs.Kinds.{Rule, Phrase, Ordered, Unordered, Meets, Enough}
+use Rattle.naming.specs.Checks.{Well-formed}
+use Rattle.joint.specs.declared.ask.Question.{Question}
+use Rattle.joint.specs.declared.ask.Question.the-variants as question
 use Rattle.joint.specs.declared.ask.Asked.{Asked}
 use Rattle.joint.specs.declared.ask.Asked.the-variants as asked
 use Rattle.joint.specs.Own.{own, segment-size}
@@ -63,7 +66,7 @@ pub record Demand-3 (l : Lists) (out : List ℕ) (rule : Rule) (ns : List (List 
   pub accepts : Answered-by r ↔ No-refusal l (length out)
   pub refuses : (x : Refusal) → r ≡ asked.NotWritten x → (out′ ≡ out) × (found′ ≡ found)
   -- a search that refuses, as it may a question that demand 3 does not name, leaves its buffer
-  pub unasked : (n : ℕ) (x : Refusal) → r ≡ asked.Answer n (counted.Refused x) → found′ ≡ found
+  pub search-refuses : (n : ℕ) (x : Refusal) → r ≡ asked.Answer n (counted.Refused x) → found′ ≡ found
   -- the bytes give back what was handed in
   pub gives-back : (n : ℕ) (c : Counted) → r ≡ asked.Answer n c → Given-back l out n out′
   -- the search does not refuse, and lists exactly the documents whose own positions meet the question
@@ -86,3 +89,22 @@ pub record Proper-two (window : ℕ) (a b : List ℕ) : Type 0 where
 abbrev pub near-rule : Bool → ℕ → Rule
 near-rule true w = Ordered w
 near-rule false w = Unordered w
+
+-- ---- the questions that a call can put
+
+abbrev pub rule-of : Question → Rule
+rule-of question.Phrase = Phrase
+rule-of (question.Near window ordered) = near-rule ordered window
+rule-of (question.Two window) = Unordered window
+
+-- names in one text, or two names
+abbrev pub names-of : Question → (name ends other : List ℕ) → List (List ℕ)
+names-of question.Phrase name ends other = names 0 ends name
+names-of (question.Near window ordered) name ends other = names 0 ends name
+names-of (question.Two window) name ends other = name ∷ other ∷ []
+
+-- a question that demand 3 names
+abbrev pub Proper : Question → (name ends other : List ℕ) → Type 0
+Proper question.Phrase name ends other = Proper-text Phrase name ends
+Proper (question.Near window ordered) name ends other = Proper-text (near-rule ordered window) name ends
+Proper (question.Two window) name ends other = Proper-two window name other

@@ -39,7 +39,7 @@ pub record Stands (l : Lists) (doc : ℕ) (name : List ℕ) (p : ℕ) : Type 0 w
 abbrev pub Own-exactly : Type 0
 Own-exactly = (l : Lists) (doc : ℕ) (name : List ℕ) (p : ℕ) → (p ∈ own l doc name) ↔ Stands l doc name p
 
--- ---- how long a segment of what is handed in is, from document 01's format: a stored number takes its shortest form
+-- ---- how long a segment of what is handed in is, from document 01's format, with every number in its shortest form (decision 4)
 
 abbrev pub gap-from : Option ℕ → ℕ → ℕ
 gap-from none v = v

@@ -4,7 +4,7 @@ use mathlib.Core.List.{List, [], _∷_}
 use mathlib.Core.Option.{none}
 use Rattle.segment.specs.Results.{Result, ok, refuse}
 use Rattle.segment.specs.Records.{Entry, Segment}
-use Rattle.segment.specs.Spots.{Spot, held-postings}
+use Rattle.decoding.specs.Spots.{Spot, held-postings}
 
 -- the counts of a list's postings, as its bytes have them: held-postings reads id gap and count of each posting and passes over as many numbers
 unfoldable pub counts-stored : List Spot → ℕ

@@ -1,4 +1,4 @@
-// Write, then ask: each function calls the writer, and then the search on exactly the bytes that it wrote.
+// Write, then ask: the writer is called, and then the search on exactly the bytes that it wrote.
 use reading::replies::Counted;
 use search::calls::near_match;
 use search::calls::near_match_terms_strs;
@@ -6,11 +6,15 @@ use search::calls::phrase_match_strs;
 use segment::refusal::Refusal;
 use writer::write::Written;
 use writer::write::write_positional_segment;
-ghost use mathlib.Core.List.{[], _∷_};
-ghost use Rattle.segment.specs.Texts.{names};
-ghost use Rattle.checking.specs.Flat.{lists};
-ghost use Rattle.search.specs.Questions.{Phrase, Unordered};
-ghost use Rattle.joint.specs.Demand.{Demand-3, Proper-text, Proper-two, near-rule};
+ghost use Rattle.checking.specs.Given.{lists};
+ghost use Rattle.joint.specs.Called.{Put, Written-then-asked};
+
+// A phrase; names near one another within a window, in the order named if the flag is set, else in any; two names near one another.
+pub enum Question {
+    Phrase,
+    Near(u32, bool),
+    Two(u32),
+}
 
 // The writer's refusal, or how many bytes were written and what the search answered.
 pub enum Asked {
@@ -18,44 +22,34 @@ pub enum Asked {
     Answer(usize, Counted),
 }
 
-// Writes, then asks for a phrase: the writer's refusal, or the length written and the search's answer.
-pub fn write_then_phrase(
-    ids: &[u32],
-    lengths: &[u32],
-    text: &[u8],
-    ends: &[u32],
-    posting_counts: &[u32],
-    posting_ids: &[u32],
-    position_counts: &[u32],
-    positions: &[u32],
-    out: &mut [u8],
-    question: &[u8],
-    question_ends: &[u32],
+// A question put to a segment.
+fn ask(
+    bytes: &[u8],
+    question: Question,
+    name: &[u8],
+    name_ends: &[u32],
+    other: &[u8],
     found: &mut [u32],
-) -> Asked
-    ensures { λ r. ⌜ Demand-3 (lists (now (ids .entry)) (now (lengths .entry)) (now (text .entry)) (now (ends .entry)) (now («posting_counts» .entry)) (now («posting_ids» .entry)) (now («position_counts» .entry)) (now (positions .entry))) (now (out .entry)) Phrase (names 0 (now («question_ends» .entry)) (now (question .entry))) (Proper-text Phrase (now (question .entry)) (now («question_ends» .entry))) (now (found .entry)) r (now (out .exit)) (now (found .exit)) ⌝ }
+) -> Counted
+    ensures { λ r. ⌜ Put (now (bytes .entry)) question (now (name .entry)) (now («name_ends» .entry)) (now (other .entry)) (now (found .entry)) r (now (found .exit)) ⌝ }
 {
-    match write_positional_segment(
-        ids,
-        lengths,
-        text,
-        ends,
-        posting_counts,
-        posting_ids,
-        position_counts,
-        positions,
-        out,
-    ) {
-        Written::Length(n) => {
-            let answer = phrase_match_strs(&out[..n], question, question_ends, found);
-            Asked::Answer(n, answer)
-        }
-        Written::Refused(x) => Asked::NotWritten(x),
+    match question {
+        Question::Phrase => phrase_match_strs(bytes, name, name_ends, found),
+        Question::Near(window, ordered) => near_match_terms_strs(
+            bytes,
+            name,
+            name_ends,
+            window,
+            ordered,
+            found,
+        ),
+        Question::Two(window) => near_match(bytes, name, other, window, found),
     }
 }
 
-// Writes, then asks for names near one another, in the order named or in any; answers as above.
-pub fn write_then_near(
+// Writes, then asks: the writer's refusal, or the length written and the search's answer. The names that are asked for stand in one text with
+// its ends, or, of two names, the second is `other`.
+pub fn write_then_ask(
     ids: &[u32],
     lengths: &[u32],
     text: &[u8],
@@ -65,13 +59,13 @@ pub fn write_then_near(
     position_counts: &[u32],
     positions: &[u32],
     out: &mut [u8],
-    question: &[u8],
-    question_ends: &[u32],
-    window: u32,
-    ordered: bool,
+    question: Question,
+    name: &[u8],
+    name_ends: &[u32],
+    other: &[u8],
     found: &mut [u32],
 ) -> Asked
-    ensures { λ r. ⌜ Demand-3 (lists (now (ids .entry)) (now (lengths .entry)) (now (text .entry)) (now (ends .entry)) (now («posting_counts» .entry)) (now («posting_ids» .entry)) (now («position_counts» .entry)) (now (positions .entry))) (now (out .entry)) (near-rule ordered window) (names 0 (now («question_ends» .entry)) (now (question .entry))) (Proper-text (near-rule ordered window) (now (question .entry)) (now («question_ends» .entry))) (now (found .entry)) r (now (out .exit)) (now (found .exit)) ⌝ }
+    ensures { λ r. ⌜ Written-then-asked (lists (now (ids .entry)) (now (lengths .entry)) (now (text .entry)) (now (ends .entry)) (now («posting_counts» .entry)) (now («posting_ids» .entry)) (now («position_counts» .entry)) (now (positions .entry))) (now (out .entry)) question (now (name .entry)) (now («name_ends» .entry)) (now (other .entry)) (now (found .entry)) r (now (out .exit)) (now (found .exit)) ⌝ }
 {
     match write_positional_segment(
         ids,
@@ -85,51 +79,7 @@ pub fn write_then_near(
         out,
     ) {
         Written::Length(n) => {
-            let answer = near_match_terms_strs(
-                &out[..n],
-                question,
-                question_ends,
-                window,
-                ordered,
-                found,
-            );
-            Asked::Answer(n, answer)
-        }
-        Written::Refused(x) => Asked::NotWritten(x),
-    }
-}
-
-// Writes, then asks for two names near one another, in any order; answers as above.
-pub fn write_then_near_two(
-    ids: &[u32],
-    lengths: &[u32],
-    text: &[u8],
-    ends: &[u32],
-    posting_counts: &[u32],
-    posting_ids: &[u32],
-    position_counts: &[u32],
-    positions: &[u32],
-    out: &mut [u8],
-    a: &[u8],
-    b: &[u8],
-    window: u32,
-    found: &mut [u32],
-) -> Asked
-    ensures { λ r. ⌜ Demand-3 (lists (now (ids .entry)) (now (lengths .entry)) (now (text .entry)) (now (ends .entry)) (now («posting_counts» .entry)) (now («posting_ids» .entry)) (now («position_counts» .entry)) (now (positions .entry))) (now (out .entry)) (Unordered window) (now (a .entry) ∷ now (b .entry) ∷ []) (Proper-two window (now (a .entry)) (now (b .entry))) (now (found .entry)) r (now (out .exit)) (now (found .exit)) ⌝ }
-{
-    match write_positional_segment(
-        ids,
-        lengths,
-        text,
-        ends,
-        posting_counts,
-        posting_ids,
-        position_counts,
-        positions,
-        out,
-    ) {
-        Written::Length(n) => {
-            let answer = near_match(&out[..n], a, b, window, found);
+            let answer = ask(&out[..n], question, name, name_ends, other, found);
             Asked::Answer(n, answer)
         }
         Written::Refused(x) => Asked::NotWritten(x),

@@ -7,28 +7,29 @@ use Prim.Native.Nat.{ℕ}
 use native.Mathlib.Omega.{arith}
 use lib.ListN.{length}
 use Rattle.segment.specs.declared.refusal.Refusal.{Refusal}
-use Rattle.segment.specs.declared.metadata.Checked.the-variants as check
+use Rattle.segment.specs.declared.checked.Checked.the-variants as check
 use Rattle.segment.specs.Refusals.{too-large, list-shape}
 use Rattle.segment.specs.Results.{Result, ok, refuse}
-use Rattle.segment.specs.Walks.{checked}
+use Rattle.segment.specs.Answers.{checked}
 use Rattle.checking.specs.Given.{Lists}
 use Rattle.checking.specs.Checks.{small}
 use Rattle.segment.proofs.Binds.{refuse-ok}
 use Rattle.segment.proofs.Accepted.{refused-is, passed-ok}
-use Rattle.search.specs.Questions.{Rule}
 use Rattle.records.specs.declared.exchange.DocumentLength.{DocumentLength}
 use Rattle.records.specs.Apart.{check-places}
 use Rattle.records.proofs.Entered.{handed-in, standing, fits-standing, places-fit, places-misfit}
 use Rattle.joint.specs.declared.ask.Asked.{Asked}
 use Rattle.joint.specs.declared.ask.Asked.the-variants as asked
-use Rattle.joint.specs.Demand.{Demand-3}
-use Rattle.joint_records.specs.Asking.{Misfits, Demand-3-records, Asked-apart}
+use Rattle.joint.specs.declared.ask.Question.{Question}
+use Rattle.joint.specs.Called.{Written-then-asked}
+use Rattle.joint_records.specs.Asking.{Misfits, Demand-3-records}
+use Rattle.joint_records.specs.Apart.{Asked-apart}
 
 same-refusal : {x y : Refusal} → _≡_ {A = Result (Unit {0})} (refuse x) (refuse y) → x ≡ y
 same-refusal e = cc
 
-module _ (count : ℕ) (l : Lists) (out found : List ℕ) {rule : Rule} {ns : List (List ℕ)} {P : Type 0} where
-  pub refused-apart : {x : Refusal} → check.Refused x ≡ checked (check-places count l) → Asked-apart count l out rule ns P found (asked.NotWritten x) out found
+module _ (count : ℕ) (l : Lists) (out found : List ℕ) {q : Question} {name name-ends other : List ℕ} where
+  pub refused-apart : {x : Refusal} → check.Refused x ≡ checked (check-places count l) → Asked-apart count l out q name name-ends other found (asked.NotWritten x) out found
   refused-apart e =
       let r = refused-is (check-places count l) e in
       record {
@@ -36,18 +37,18 @@ module _ (count : ℕ) (l : Lists) (out found : List ℕ) {rule : Rule} {ns : Li
         refused = λ y p. (ap asked.NotWritten (same-refusal (sym r ∙ p)), refl, refl);
       }
 
-  pub passed-apart : {r : Asked} {out′ found′ : List ℕ} → check.Passed ≡ checked (check-places count l) → Demand-3 l out rule ns P found r out′ found′
-      → Asked-apart count l out rule ns P found r out′ found′
+  pub passed-apart : {r : Asked} {out′ found′ : List ℕ} → check.Passed ≡ checked (check-places count l) → Written-then-asked l out q name name-ends other found r out′ found′
+      → Asked-apart count l out q name name-ends other found r out′ found′
   passed-apart e d = record { passed = λ _. d; refused = λ y p. refuse-ok (sym p ∙ passed-ok (check-places count l) e .1) }
 
-module _ (ds : List DocumentLength) (xs ys text ends posting-counts posting-ids position-counts positions : List ℕ) {out found : List ℕ} {rule : Rule}
-    {ns : List (List ℕ)} {P : Type 0} {r : Asked} {out′ found′ : List ℕ} where
-  pub asked-records : Asked-apart (length ds) (standing ds xs ys text ends posting-counts posting-ids position-counts positions) out rule ns P found r out′ found′
-      → Demand-3-records (handed-in ds xs ys text ends posting-counts posting-ids position-counts positions) ds xs ys out rule ns P found r ds xs ys out′ found′
+module _ (ds : List DocumentLength) (xs ys text ends posting-counts posting-ids position-counts positions : List ℕ) {out found : List ℕ} {q : Question}
+    {name name-ends other : List ℕ} {r : Asked} {out′ found′ : List ℕ} where
+  pub asked-records : Asked-apart (length ds) (standing ds xs ys text ends posting-counts posting-ids position-counts positions) out q name name-ends other found r out′ found′
+      → Demand-3-records (handed-in ds xs ys text ends posting-counts posting-ids position-counts positions) ds xs ys out q name name-ends other found r ds xs ys out′ found′
   asked-records w =
       record {
         demand = λ f g.
-            subst (λ (l : Lists). Demand-3 l out rule ns P found r out′ found′)
+            subst (λ (l : Lists). Written-then-asked l out q name name-ends other found r out′ found′)
             (fits-standing ds xs ys text ends posting-counts posting-ids position-counts positions f g)
             (w .passed (places-fit ds xs ys text ends posting-counts posting-ids position-counts positions f g));
         misfits = λ differ.

@@ -1,2 +1,4 @@
 -- Demand 3 over records.
 pub mod Asking
+-- What only proofs need:
+pub mod Apart

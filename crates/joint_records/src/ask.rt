@@ -1,23 +1,15 @@
-// Write from records, then ask. One function for the three questions: each function over a slice of records needs a proof by hand.
+// Write from records, then ask.
 use joint::ask::Asked;
-use joint::ask::write_then_near;
-use joint::ask::write_then_near_two;
-use joint::ask::write_then_phrase;
+use joint::ask::Question;
+use joint::ask::write_then_ask;
 use records::exchange::DocumentLength;
 use records::exchange::exchange;
 use records::write::check_places;
-use segment::metadata::Checked;
-ghost use mathlib.Core.Path.{_≡_};
-ghost use Rattle.checking.specs.Flat.{lists};
+use segment::checked::Checked;
+ghost use Rattle.checking.specs.Given.{lists};
 ghost use Rattle.records.specs.Entry.{taken-apart};
-ghost use Rattle.joint_records.specs.Asking.{rule-of, names-of, Proper, Asked-apart, Demand-3-records};
-
-// A phrase; names near one another within a window, in the order named if the flag is set, else in any; two names near one another.
-pub enum Question {
-    Phrase,
-    Near(u32, bool),
-    Two(u32),
-}
+ghost use Rattle.joint_records.specs.Apart.{Asked-apart};
+ghost use Rattle.joint_records.specs.Asking.{Demand-3-records};
 
 // The writer and the search over the lists in which the records stand taken apart.
 fn ask_apart(
@@ -37,9 +29,9 @@ fn ask_apart(
     other: &[u8],
     found: &mut [u32],
 ) -> Asked
-    ensures { λ r. ⌜ Asked-apart count (lists (now (ids .entry)) (now (lengths .entry)) (now (text .entry)) (now (ends .entry)) (now («posting_counts» .entry)) (now («posting_ids» .entry)) (now («position_counts» .entry)) (now (positions .entry))) (now (out .entry)) (rule-of question) (names-of question (now (name .entry)) (now («name_ends» .entry)) (now (other .entry))) (Proper question (now (name .entry)) (now («name_ends» .entry)) (now (other .entry))) (now (found .entry)) r (now (out .exit)) (now (found .exit)) ⌝ }
+    ensures { λ r. ⌜ Asked-apart count (lists (now (ids .entry)) (now (lengths .entry)) (now (text .entry)) (now (ends .entry)) (now («posting_counts» .entry)) (now («posting_ids» .entry)) (now («position_counts» .entry)) (now (positions .entry))) (now (out .entry)) question (now (name .entry)) (now («name_ends» .entry)) (now (other .entry)) (now (found .entry)) r (now (out .exit)) (now (found .exit)) ⌝ }
 {
-    if let Checked::Refused(x) = check_places(
+    match check_places(
         count,
         ids,
         lengths,
@@ -50,10 +42,8 @@ fn ask_apart(
         position_counts,
         positions,
     ) {
-        return Asked::NotWritten(x);
-    }
-    match question {
-        Question::Phrase => write_then_phrase(
+        Checked::Refused(x) => Asked::NotWritten(x),
+        Checked::Passed => write_then_ask(
             ids,
             lengths,
             text,
@@ -63,45 +53,17 @@ fn ask_apart(
             position_counts,
             positions,
             out,
+            question,
             name,
             name_ends,
-            found,
-        ),
-        Question::Near(window, ordered) => write_then_near(
-            ids,
-            lengths,
-            text,
-            ends,
-            posting_counts,
-            posting_ids,
-            position_counts,
-            positions,
-            out,
-            name,
-            name_ends,
-            window,
-            ordered,
-            found,
-        ),
-        Question::Two(window) => write_then_near_two(
-            ids,
-            lengths,
-            text,
-            ends,
-            posting_counts,
-            posting_ids,
-            position_counts,
-            positions,
-            out,
-            name,
             other,
-            window,
             found,
         ),
     }
 }
 
-// The names stand in one text with its ends, or, of two names, the second is `other`.
+// Writes from records, then asks: the writer's refusal, or the length written and the search's answer. Records and the two lent lists are as
+// before on every outcome. The names that are asked for stand in one text with its ends, or, of two names, the second is `other`.
 pub fn write_records_then_ask(
     documents: &mut [DocumentLength],
     ids: &mut [u32],
@@ -119,7 +81,7 @@ pub fn write_records_then_ask(
     other: &[u8],
     found: &mut [u32],
 ) -> Asked
-    ensures { λ r. ⌜ Demand-3-records (taken-apart (now (documents .entry)) (now (text .entry)) (now (ends .entry)) (now («posting_counts» .entry)) (now («posting_ids» .entry)) (now («position_counts» .entry)) (now (positions .entry))) (now (documents .entry)) (now (ids .entry)) (now (lengths .entry)) (now (out .entry)) (rule-of question) (names-of question (now (name .entry)) (now («name_ends» .entry)) (now (other .entry))) (Proper question (now (name .entry)) (now («name_ends» .entry)) (now (other .entry))) (now (found .entry)) r (now (documents .exit)) (now (ids .exit)) (now (lengths .exit)) (now (out .exit)) (now (found .exit)) ⌝ }
+    ensures { λ r. ⌜ Demand-3-records (taken-apart (now (documents .entry)) (now (text .entry)) (now (ends .entry)) (now («posting_counts» .entry)) (now («posting_ids» .entry)) (now («position_counts» .entry)) (now (positions .entry))) (now (documents .entry)) (now (ids .entry)) (now (lengths .entry)) (now (out .entry)) question (now (name .entry)) (now («name_ends» .entry)) (now (other .entry)) (now (found .entry)) r (now (documents .exit)) (now (ids .exit)) (now (lengths .exit)) (now (out .exit)) (now (found .exit)) ⌝ }
 {
     exchange(documents, ids, lengths);
     let asked = ask_apart(

@@ -97,6 +97,22 @@ pub column-length : (n : ℕ) → n < 10000000000 → length (column n) ≡ 10
 column-length n h =
     ap length (column-is n h) ∙ length-append (front 9 (n / 10)) ((48 + n % 10) ∷ []) ∙ ap (λ k. k + 1) (front-length 9 (n / 10))
 
+-- of whatever number
+digits-most : (m n : ℕ) (rest : List ℕ) → length (digits m n rest) ≤ m + length rest
+unfolding digits
+digits-most zero n rest = omega arith
+digits-most (suc m) n rest = ⊎-elim
+    (λ (h : n < 10). rw (lt-ltb n 10 h) (omega arith))
+    (λ (h : 10 ≤ n). rw (le-ltb n 10 h) (omega (arith, digits-most m (n / 10) ((48 + n % 10) ∷ rest))))
+    (lt-or-ge n 10)
+
+pub column-most : (n : ℕ) → length (column n) ≤ 20
+unfolding column
+column-most n =
+    let ds = digits 20 n [] in
+    let blank : List ℕ = replicate (10 - length ds) 32 in
+    omega (arith, digits-most 20 n [], length-append blank ds, length-replicate {0} {A = ℕ} (10 - length ds) 32)
+
 -- the loop: each digit is stored in front of the last one
 pub front-next : (i left : ℕ) → 0 < i → front i left ≡ front (i - 1) (left / 10) ++ digit-of left ∷ []
 unfolding front

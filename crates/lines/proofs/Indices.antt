@@ -9,8 +9,8 @@ use native.Mathlib.Omega.{arith}
 use lib.Dec.{ltb, leb, eqb}
 use lib.ListN.{length, take, drop}
 use Rattle.codec.specs.Leb128.{Leb, stored}
-use Rattle.codec.specs.Crc32.{crc32Of}
-use Rattle.codec.specs.Utf8.{utf8}
+use Rattle.checksum.specs.Crc32.{crc32Of}
+use Rattle.encoding.specs.Utf8.{utf8}
 use Rattle.codec.proofs.Bytes.{Bytes}
 use Rattle.segment.specs.declared.refusal.Refusal.{Refusal}
 use Rattle.segment.specs.Refusals.{header, term-directory, term-bytes, document-metadata, postings, truncated, invalid-magic, unsupported-version, unsupported-flags, checksum-mismatch, invalid-layout, doc-id-overflow, invalid-utf8, trailing-bytes, section-range-overflow, trailing-document-metadata, non-increasing-document-id, directory-length-mismatch, empty-term, non-increasing-term, empty-term-posting-list}

@@ -5,3 +5,4 @@ pub mod Widths
 pub mod Texts
 pub mod Indices
 pub mod Listed
+pub mod Fitting

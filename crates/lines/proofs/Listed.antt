@@ -19,14 +19,15 @@ use Rattle.segment.specs.Results.{Result, ok, refuse}
 use Rattle.segment.specs.Records.{Segment}
 use Rattle.segment.specs.Opening.{open-segment}
 use Rattle.opening.specs.Layouts.{cut}
-use Rattle.segment.specs.Held.{held-documents}
+use Rattle.decoding.specs.Held.{held-documents}
 use Rattle.opening.specs.Opened.{Is-open, Opens}
-use Rattle.segment.proofs.Documents-held.{held-rise}
+use Rattle.decoding.proofs.Documents-held.{held-rise}
 use Rattle.reading.specs.declared.replies.Counted.{Counted}
 use Rattle.reading.specs.declared.replies.Counted.the-variants.{Count, Refused}
 use Rattle.reading.specs.Answers.{count-of, filled}
 use Rattle.lines.specs.Listing.{column, document-lines, entry-lines, count-line, refusal-line, text-of, listable, listing}
-use Rattle.lines.specs.Stores.{Stored, Listed-into, list-into, Text-listed, Listable-as, Segment-listed, entry-lines-at}
+use Rattle.lines.specs.Stores.{Stored, Text-listed, Listable-as, Segment-listed, entry-lines-at}
+use Rattle.lines.specs.Promise.{Listed-into, list-into}
 use Rattle.lines.proofs.Sets.{stored-append}
 use Rattle.lines.proofs.Columns.{column-length}
 use Rattle.lines.proofs.Widths.{bytes-between}

@@ -9,13 +9,13 @@ use native.Mathlib.Omega.{arith}
 use lib.ListN.{length, getD, length-append}
 use Rattle.codec.proofs.Bytes.{Bytes}
 use Rattle.codec.proofs.Loops.{left-suc, left-none}
-use Rattle.segment.specs.declared.metadata.Documents.{Documents}
+use Rattle.decoding.specs.declared.metadata.Documents.{Documents}
 use Rattle.segment.specs.Records.{Document, Entry, field, between}
 use Rattle.segment.specs.Metadata.{document}
-use Rattle.segment.specs.Held.{rest-of, documents-at, documents-from}
+use Rattle.decoding.specs.Held.{rest-of, documents-at, documents-from}
 use Rattle.opening.specs.Terms.{entry-at}
 use Rattle.opening.specs.Opened.{no-entry}
-use Rattle.segment.proofs.Documents-held.{Rising}
+use Rattle.decoding.proofs.Documents-held.{Rising}
 use Rattle.lines.specs.Listing.{column, name-column, document-line, document-lines, entry-line, entry-lines}
 use Rattle.lines.specs.Stores.{Stored, entry-lines-at}
 use Rattle.lines.proofs.Sets.{stored-append}

@@ -1,33 +1,20 @@
--- What the calls leave in the lent slice.
+-- What the code over the lent slice stands for.
 use Prim.Native.Nat.{ℕ, zero, suc, _+_, _*_, _%_, _≤_, _<_}
 use mathlib.Core.Path.{_≡_}
 use mathlib.Core.Bool.{cond}
 use mathlib.Core.List.{List, [], _++_}
-use lib.Dec.{ltb, leb, eqb}
+use lib.Dec.{ltb, eqb}
 use lib.ListN.{length, getD}
 use lib.Seq.{sets}
 use Rattle.segment.specs.declared.refusal.Refusal.{Refusal}
 use Rattle.opening.specs.declared.header.Layout.{Layout}
-use Rattle.segment.specs.Refusals.{no-room}
-use Rattle.segment.specs.Results.{Result, ok, _>>=_, check}
+use Rattle.segment.specs.Results.{Result, ok, _>>=_, roomy}
 use Rattle.segment.specs.Records.{Segment}
 use Rattle.opening.specs.Terms.{entry-at, Entry-inside}
 use Rattle.opening.specs.Opened.{Is-open}
 use Rattle.reading.specs.declared.replies.Counted.{Counted}
 use Rattle.reading.specs.Answers.{count-of, filled}
-use Rattle.lines.specs.Listing.{shown, listing, entry-line, refusal-line, text-of}
-
--- the text, or 13 where the slice is too short for it
-unfoldable pub list-into : (bytes : List ℕ) (room : ℕ) → Result (List ℕ)
-list-into bytes room = do
-  _ ← check (leb (length (listing bytes)) room) (no-room 1 (length (listing bytes)))
-  ok (listing bytes)
-
-pub record Listed-into (bytes out : List ℕ) (r : Counted) (out′ : List ℕ) : Type 0 where
-  pub reply : r ≡ count-of (list-into bytes (length out))
-  pub left : out′ ≡ filled (λ text. text) (list-into bytes (length out)) out
-
--- ---- inside
+use Rattle.lines.specs.Listing.{shown, entry-line, refusal-line, text-of}
 
 -- so many bytes stored from a place on; the answer is the place past them, and all else is as it was
 pub record Stored (bytes : List ℕ) (width at : ℕ) (entry : List ℕ) (next : ℕ) (exit : List ℕ) : Type 0 where
@@ -52,7 +39,7 @@ pub record Entries-room (dir names : List ℕ) (terms : ℕ) (out : List ℕ) (a
   pub room : at + 27 * terms ≤ length out
 
 abbrev pub text-into : (text : List ℕ) (room : ℕ) → Result (List ℕ)
-text-into text room = check (leb (length text) room) (no-room 1 (length text)) >>= λ _. ok text
+text-into text room = roomy 1 (length text) room >>= λ _. ok text
 
 pub record Text-listed (text out : List ℕ) (r : Counted) (out′ : List ℕ) : Type 0 where
   pub reply : r ≡ count-of (text-into text (length out))

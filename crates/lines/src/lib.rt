@@ -2,7 +2,7 @@
 //   put      numbers and names in columns
 //   list     the text: one line for the counts, one a document, one a term; or one line for a refusal
 //   print    the text written out
-// specs/Listing.antt is the text.
+// specs/Listing.antt is the text; specs/Claims.antt says how long it can be.
 pub mod list;
 pub mod print;
 pub mod put;

@@ -1,13 +1,13 @@
 // The text of a listing.
 use crate::put::put_name;
 use crate::put::put_number;
+use decoding::metadata::Documents;
 use opening::header::Layout;
 use opening::open_segment::Opening;
 use opening::open_segment::open_layout;
 use reading::replies::Counted;
 use segment::fixed::long;
 use segment::fixed::read_u32_at;
-use segment::metadata::Documents;
 use segment::refusal::NO_ROOM;
 use segment::refusal::Refusal;
 use segment::refusal::TOO_LARGE;
@@ -15,10 +15,11 @@ ghost use mathlib.Core.List.{[], _∷_, _++_};
 ghost use mathlib.Core.Option.{none};
 ghost use Prim.Native.Nat.{_+_, _*_, _≤_, _<_};
 ghost use lib.ListN.{length};
-ghost use Rattle.segment.specs.Held.{held-documents};
+ghost use Rattle.decoding.specs.Held.{held-documents};
 ghost use Rattle.opening.specs.Terms.{entry-at, Entry-inside};
 ghost use Rattle.lines.specs.Listing.{column, document-lines, entry-line};
-ghost use Rattle.lines.specs.Stores.{Stored, Entries-room, entry-lines-at, Refusal-listed, Listable-as, Segment-listed, Listed-into};
+ghost use Rattle.lines.specs.Stores.{Stored, Entries-room, entry-lines-at, Refusal-listed, Listable-as, Segment-listed};
+ghost use Rattle.lines.specs.Promise.{Listed-into};
 
 // The end of a line.
 fn put_end(out: &mut [u8], at: usize) -> usize

@@ -10,7 +10,8 @@ use native.Mathlib.Omega.{arith}
 use lib.ListN.{length, getD, take}
 use Rattle.reading.specs.declared.positions.Positions.{Positions}
 use Rattle.reading.specs.Cursors.{positions-at, positions-from}
-use Rattle.matching.specs.Fits.{at-place, Found, stands, within, shows, lists, Chained}
+use Rattle.rules.specs.Words.{within}
+use Rattle.matching.specs.Fits.{at-place, Found, stands, shows, lists, Chained}
 use Rattle.segment.specs.Elements.{_∈_}
 
 -- the lists of n places

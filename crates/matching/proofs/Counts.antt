@@ -9,7 +9,8 @@ use lib.ListN.{length}
 use lib.Dec.{ltb}
 use borrow.Author.Tests.{le-leb, lt-leb, le-ltb, lt-ltb, ltb-true, ltb-false}
 use Rattle.reading.proofs.Rising.{Rises}
-use Rattle.matching.specs.Fits.{within}
+use Rattle.rules.specs.Members.{kept}
+use Rattle.rules.specs.Words.{within}
 use Rattle.matching.proofs.Members.{onward}
 
 onward-all : (a low : ℕ) (l : List ℕ) → Rises (λ (p : ℕ). p) low l → a ≤ low → onward a l ≡ l
@@ -19,19 +20,19 @@ onward-all a low (x ∷ l) (k, u) h = rw (le-ltb x a (omega arith))
 module _ (a w z : ℕ) (edge : z ≡ a + w + 1) where
   -- a position is before the window, in it, or past it
   before : (x : ℕ) (l : List ℕ) → x < a → within a w (x ∷ l) ≡ within a w l
-  unfolding within
+  unfolding within kept
   before x l h = rw (lt-leb a x h)
 
   inside : (x : ℕ) (l : List ℕ) → a ≤ x → x < z → within a w (x ∷ l) ≡ suc (within a w l)
-  unfolding within
+  unfolding within kept
   inside x l h k = rw (le-leb a x h, le-leb x (a + w) (omega arith))
 
   past : (x : ℕ) (l : List ℕ) → z ≤ x → within a w (x ∷ l) ≡ within a w l
-  unfolding within
+  unfolding within kept
   past x l h = rw (le-leb a x (omega arith), lt-leb x (a + w) (omega arith))
 
   none-in : within a w [] ≡ 0
-  unfolding within
+  unfolding within kept
   none-in = refl
 
   pub within-count : (low : ℕ) (l : List ℕ) → Rises (λ (p : ℕ). p) low l → within a w l + length (onward z l) ≡ length (onward a l)

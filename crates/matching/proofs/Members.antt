@@ -8,7 +8,7 @@ use mathlib.Core.Logic.{inl, inr}
 use native.Mathlib.Omega.{arith}
 use lib.Dec.{ltb}
 use borrow.Author.Tests.{ltb-true}
-use Rattle.segment.specs.Held.{seek-in}
+use Rattle.decoding.specs.Held.{seek-in}
 use Rattle.reading.specs.declared.positions.Positions.{Positions}
 use Rattle.reading.specs.Cursors.{positions-from, Sought-position}
 use Rattle.reading.proofs.Seeks.{Ahead}

@@ -16,7 +16,8 @@ use Rattle.reading.specs.Cursors.{positions-from}
 use Rattle.reading.proofs.Seeks.{seek-stop, seek-end, seek-length, seek-twice}
 use Rattle.reading.proofs.Rising.{from-rise}
 use Rattle.matching.specs.declared.pass.Moved.{Moved}
-use Rattle.matching.specs.Fits.{no-positions, within, shows, Passed}
+use Rattle.rules.specs.Words.{within}
+use Rattle.matching.specs.Fits.{no-positions, shows, Passed}
 use Rattle.matching.proofs.Members.{onward, ahead}
 use Rattle.matching.proofs.Leap.{Same}
 use Rattle.matching.proofs.Places.{by-place, same-but}

@@ -1,14 +1,14 @@
 -- The rules over cursors: `cs` are the cursors, one for each place of the question (or for each different name).
-use Prim.Native.Nat.{ℕ, suc, _+_, _^_, _≤_, _<_}
+use Prim.Native.Nat.{ℕ, _+_, _^_, _≤_, _<_}
 use mathlib.Core.Path.{_≡_}
-use mathlib.Core.Bool.{Bool, true, false, cond, _&&_}
-use mathlib.Core.List.{List, [], _∷_}
-use lib.Dec.{leb}
+use mathlib.Core.Bool.{Bool, true, false}
+use mathlib.Core.List.{List}
 use lib.ListN.{length, getD}
 use Rattle.reading.specs.declared.positions.Positions.{Positions}
 use Rattle.segment.specs.Elements.{_∈_}
-use Rattle.segment.specs.Held.{seek-in}
+use Rattle.decoding.specs.Held.{seek-in}
 use Rattle.reading.specs.Cursors.{positions-from}
+use Rattle.rules.specs.Words.{within}
 use Rattle.matching.specs.declared.pass.Moved.{Moved}
 
 abbrev pub no-positions : Positions
@@ -36,11 +36,6 @@ pub record Found (n : ℕ) (takes : ℕ → ℕ → Type 0) (r : Bool) : Type 0 
 -- phrase: place j stands on start + j
 abbrev pub stands : (bytes : List ℕ) (cs : List Positions) → ℕ → ℕ → Type 0
 stands bytes cs j start = (start + j) ∈ at-place bytes cs j
-
--- how many positions lie on the window + 1 consecutive ones from start on
-unfoldable pub within : (start window : ℕ) → List ℕ → ℕ
-within start window [] = 0
-within start window (p ∷ ps) = let later = within start window ps in cond (leb start p && leb p (start + window)) (suc later) later
 
 -- unordered: the window from start on holds name j as often as it is named
 abbrev pub shows : (bytes : List ℕ) (window : ℕ) (named : List ℕ) (cs : List Positions) → ℕ → ℕ → Type 0

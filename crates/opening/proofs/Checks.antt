@@ -10,11 +10,11 @@ use lib.Dec.{ltb}
 use lib.ListN.{length, take, drop, length-take, length-drop}
 use lib.Seq.{take-all}
 use borrow.Author.Tests.{lt-ltb, le-ltb}
-use Rattle.codec.specs.Utf8.{utf8}
+use Rattle.encoding.specs.Utf8.{utf8}
 use Rattle.segment.specs.declared.refusal.Refusal.{Refusal}
 use Rattle.opening.specs.declared.header.RangeEnd.{RangeEnd}
 use Rattle.opening.specs.declared.header.RangeEnd.the-variants as range
-use Rattle.segment.specs.declared.metadata.Checked.the-variants.{Passed, Refused}
+use Rattle.segment.specs.declared.checked.Checked.the-variants.{Passed, Refused}
 use Rattle.opening.specs.declared.directory.NameRange.{NameRange}
 use Rattle.opening.specs.declared.directory.EntryStep.{EntryStep}
 use Rattle.opening.specs.declared.directory.EntryStep.the-variants as step
@@ -23,7 +23,7 @@ use Rattle.segment.specs.Results.{ok, refuse}
 use Rattle.segment.specs.Records.{field, between}
 use Rattle.segment.specs.Directory.{part, follows, read-list-range, read-entry}
 use Rattle.opening.specs.Layouts.{range-end}
-use Rattle.segment.specs.Walks.{earlier, checked}
+use Rattle.segment.specs.Answers.{earlier, checked}
 use Rattle.opening.specs.Terms.{In-names, name-in, named, entry-means, Walked-entry}
 use Rattle.segment.proofs.Accepted.{passed-ok, refused-is}
 use Rattle.opening.proofs.Sections.{part-to, part-is, end-is}

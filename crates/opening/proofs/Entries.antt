@@ -11,17 +11,17 @@ use lib.Dec.{ltb, leb, eqb}
 use lib.ListN.{length, take, drop, getD}
 use lib.Seq.{drop-drop}
 use borrow.Author.Tests.{ltb-true, leb-true, eqb-true, eq-eqb, ne-eqb}
-use Rattle.codec.specs.Utf8.{utf8}
+use Rattle.encoding.specs.Utf8.{utf8}
 use Rattle.codec.proofs.Loops.{left-suc, left-none}
 use Rattle.segment.specs.declared.refusal.Refusal.{Refusal}
-use Rattle.segment.specs.declared.metadata.Checked.{Checked}
-use Rattle.segment.specs.declared.metadata.Checked.the-variants.{Passed, Refused}
+use Rattle.segment.specs.declared.checked.Checked.{Checked}
+use Rattle.segment.specs.declared.checked.Checked.the-variants.{Passed, Refused}
 use Rattle.segment.specs.Refusals.{term-bytes, postings, invalid-layout, directory-length-mismatch}
 use Rattle.segment.specs.Results.{Result, ok, refuse}
 use Rattle.segment.specs.Records.{Entry, little-endian, field}
 use Rattle.segment.specs.Names.{precedes}
 use Rattle.segment.specs.Directory.{part, follows, read-list-range, read-entry, read-entries, directory}
-use Rattle.segment.specs.Walks.{checked}
+use Rattle.segment.specs.Answers.{checked}
 use Rattle.opening.specs.Terms.{named, name-at, entry-at, Entry-inside, Sorted}
 use Rattle.opening.specs.Opened.{no-entry}
 use Rattle.segment.proofs.Strings.{precedes-transitive}

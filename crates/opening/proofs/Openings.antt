@@ -6,11 +6,11 @@ use Prim.Native.Nat.{ℕ, _<_}
 use native.Mathlib.Omega.{arith}
 use lib.ListN.{length, getD}
 use borrow.Author.Tests.{eq-eqb, ne-eqb}
-use Rattle.codec.specs.Crc32.{crc32Of}
+use Rattle.checksum.specs.Crc32.{crc32Of}
 use Rattle.segment.specs.declared.refusal.Refusal.{Refusal}
 use Rattle.opening.specs.declared.header.Layout.{Layout}
-use Rattle.segment.specs.declared.metadata.Checked.{Checked}
-use Rattle.segment.specs.declared.metadata.Checked.the-variants.{Passed, Refused}
+use Rattle.segment.specs.declared.checked.Checked.{Checked}
+use Rattle.segment.specs.declared.checked.Checked.the-variants.{Passed, Refused}
 use Rattle.opening.specs.declared.open_segment.Opening.{Opening}
 use Rattle.opening.specs.declared.open_segment.Opening.the-variants as opening
 use Rattle.opening.specs.declared.open_segment.Opened.the-variants as answer
@@ -21,10 +21,11 @@ use Rattle.segment.specs.Metadata.{metadata}
 use Rattle.segment.specs.Directory.{directory}
 use Rattle.segment.specs.Opening.{Sections, sections, section-checksum, checksums, contents, open-segment}
 use Rattle.opening.specs.Layouts.{Ordered, cut}
-use Rattle.segment.specs.Walks.{checked}
-use Rattle.opening.specs.Opened.{opened, no-entry, Is-open, Opens}
+use Rattle.segment.specs.Answers.{checked}
+use Rattle.opening.specs.Opened.{no-entry, Is-open, Opens}
+use Rattle.opening.specs.Promise.{opened}
 use Rattle.segment.proofs.Binds.{bind-gives, ok-same}
-use Rattle.segment.proofs.Documents-held.{metadata-held}
+use Rattle.decoding.proofs.Documents-held.{metadata-held}
 use Rattle.segment.proofs.Accepted.{passed-ok, refused-is, stops, goes, same-check}
 use Rattle.opening.proofs.Entries.{Whole, directory-ok}
 

@@ -1,5 +1,6 @@
--- The opener's promise (`opened`), and what its answers stand for. The definition of opening itself is crate segment's (specs/Opening.antt).
+-- The opener's promise. The definition of opening itself is crate segment's (specs/Opening.antt).
+pub mod Promise
+-- What an open segment is to the calls behind it, and what the opener's parts show on the way:
 pub mod Opened
--- What its parts show on the way:
 pub mod Layouts
 pub mod Terms

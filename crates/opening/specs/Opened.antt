@@ -1,4 +1,4 @@
--- What opening answers, and what it shows to the calls behind it.
+-- What opening shows to the calls behind it.
 use Prim.Native.Nat.{ℕ, _+_, _*_, _≤_, _<_}
 use mathlib.Core.Path.{_≡_}
 use mathlib.Core.List.{List, []}
@@ -7,19 +7,12 @@ use lib.ListN.{length, getD}
 use Rattle.opening.specs.declared.header.Layout.{Layout}
 use Rattle.opening.specs.declared.open_segment.Opening.{Opening}
 use Rattle.opening.specs.declared.open_segment.Opening.the-variants as opening
-use Rattle.opening.specs.declared.open_segment.Opened.{Opened}
-use Rattle.opening.specs.declared.open_segment.Opened.the-variants as answer
 use Rattle.segment.specs.Results.{Result, ok, refuse}
 use Rattle.segment.specs.Records.{Entry, Segment, field}
 use Rattle.segment.specs.Opening.{open-segment}
 use Rattle.opening.specs.Layouts.{Ordered, cut}
-use Rattle.segment.specs.Held.{held-documents}
+use Rattle.decoding.specs.Held.{held-documents}
 use Rattle.opening.specs.Terms.{Sorted, entry-at}
-
--- the counts of bars and sounds (document 01), or the refusal
-abbrev pub opened : Result Segment → Opened
-opened (ok s) = answer.Counts (record { documents = length (s .documents); terms = length (s .entries) })
-opened (refuse x) = answer.Refused x
 
 abbrev pub no-entry : Entry
 no-entry = record { name = []; list = []; df = 0; checksum = 0 }

@@ -13,7 +13,7 @@ use Rattle.segment.specs.Results.{Result, ok, refuse}
 use Rattle.segment.specs.Records.{Entry, field, between}
 use Rattle.segment.specs.Names.{precedes}
 use Rattle.segment.specs.Directory.{follows, read-entry}
-use Rattle.segment.specs.Walks.{earlier}
+use Rattle.segment.specs.Answers.{earlier}
 
 -- a range lies in the section
 pub record In-names (r : NameRange) (names : List ℕ) : Type 0 where

@@ -1,11 +1,11 @@
 // The term directory: entries of 32 bytes, checked in document 01's order, and a term found by its name.
 use crate::header::RangeEnd;
 use crate::header::checked_range;
-use codec::utf8::is_utf8;
+use encoding::utf8::is_utf8;
+use segment::checked::Checked;
 use segment::fixed::long;
 use segment::fixed::read_u32_at;
 use segment::fixed::read_usize_at;
-use segment::metadata::Checked;
 use segment::names::Order;
 use segment::names::compare;
 use segment::names::precedes;
@@ -23,7 +23,7 @@ ghost use Prim.Native.Nat.{_+_, _*_, _≤_, _<_};
 ghost use lib.ListN.{length};
 ghost use Rattle.segment.specs.Directory.{directory, read-list-range};
 ghost use Rattle.segment.specs.Orders.{order};
-ghost use Rattle.segment.specs.Walks.{checked};
+ghost use Rattle.segment.specs.Answers.{checked};
 ghost use Rattle.opening.specs.Terms.{In-names, follows-name, Walked-entry, name-at, Entry-inside, Sorted, Located};
 
 // Where a name lies in the section of term bytes.

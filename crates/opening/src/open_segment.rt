@@ -3,10 +3,10 @@ use crate::directory::decode_term_directory;
 use crate::header::Header;
 use crate::header::Layout;
 use crate::header::read_header;
-use codec::crc32::crc32;
+use checksum::crc32::crc32;
+use decoding::metadata::decode_document_lengths;
+use segment::checked::Checked;
 use segment::fixed::read_u32_at;
-use segment::metadata::Checked;
-use segment::metadata::decode_document_lengths;
 use segment::refusal::CHECKSUM_MISMATCH;
 use segment::refusal::DOCUMENT_METADATA;
 use segment::refusal::POSTINGS;
@@ -19,8 +19,9 @@ ghost use lib.ListN.{length};
 ghost use Rattle.segment.specs.Opening.{checksums, contents, section-checksum, open-segment};
 ghost use Rattle.opening.specs.Layouts.{cut, Ordered};
 ghost use Rattle.segment.specs.Records.{between};
-ghost use Rattle.segment.specs.Walks.{checked};
-ghost use Rattle.opening.specs.Opened.{Opens, opened};
+ghost use Rattle.segment.specs.Answers.{checked};
+ghost use Rattle.opening.specs.Opened.{Opens};
+ghost use Rattle.opening.specs.Promise.{opened};
 
 // The checksum of a section, which the header has at a place.
 fn check_crc(bytes: &[u8], from: usize, to: usize, at: usize, section: u32) -> Checked

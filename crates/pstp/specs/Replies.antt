@@ -7,12 +7,12 @@ use Rattle.opening.specs.declared.open_segment.Opened.{Opened}
 use Rattle.opening.specs.declared.open_segment.Opened.the-variants as opened
 use Rattle.reading.specs.declared.replies.Counted.{Counted}
 use Rattle.reading.specs.declared.replies.Counted.the-variants as counted
-use Rattle.calls.specs.declared.replies.Length.{Length}
-use Rattle.calls.specs.declared.replies.Length.the-variants as len
-use Rattle.calls.specs.declared.replies.Frequency.{Frequency}
-use Rattle.calls.specs.declared.replies.Frequency.the-variants as frequency
-use Rattle.calls.specs.declared.replies.Listed.{Listed}
-use Rattle.calls.specs.declared.replies.Listed.the-variants as listed
+use Rattle.lengths.specs.declared.replies.Length.{Length}
+use Rattle.lengths.specs.declared.replies.Length.the-variants as len
+use Rattle.postings.specs.declared.replies.DocFreq.{DocFreq}
+use Rattle.postings.specs.declared.replies.DocFreq.the-variants as frequency
+use Rattle.positions.specs.declared.replies.Listed.{Listed}
+use Rattle.positions.specs.declared.replies.Listed.the-variants as listed
 use Rattle.writer.specs.declared.write.Written.{Written}
 use Rattle.writer.specs.declared.write.Written.the-variants as written
 use Rattle.pstp.specs.declared.reply.Reply.{Reply}
@@ -34,7 +34,7 @@ length-reply (len.Known n) = accepted 1 n
 length-reply len.Absent = accepted 0 0
 length-reply (len.Refused x) = refused x
 
-abbrev pub frequency-reply : Frequency → Reply
+abbrev pub frequency-reply : DocFreq → Reply
 frequency-reply (frequency.Df n) = accepted n 0
 frequency-reply (frequency.Refused x) = refused x
 

@@ -4,7 +4,7 @@ use crate::reply::of_counted;
 use search::calls::near_match;
 use search::calls::near_match_terms_strs;
 use search::calls::phrase_match_strs;
-use search::document::Ask;
+use walking::document::Ask;
 ghost use Rattle.search.specs.Asked.{near-ask, Text-answered, Two-answered};
 ghost use Rattle.pstp.specs.Replies.{Replied, counted-reply};
 

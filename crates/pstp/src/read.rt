@@ -1,23 +1,26 @@
 // Open and the read calls.
 use crate::reply::Reply;
 use crate::reply::of_counted;
-use crate::reply::of_frequency;
+use crate::reply::of_doc_freq;
 use crate::reply::of_length;
 use crate::reply::of_listed;
 use crate::reply::of_opened;
-use calls::documents::document_len;
-use calls::documents::document_lengths;
-use calls::terms::df;
-use calls::terms::docs_with_term;
-use calls::terms::positions;
-use calls::terms::term_postings;
+use lengths::documents::document_len;
+use lengths::documents::document_lengths;
 use opening::open_segment::open;
+use positions::terms::positions;
+use positions::terms::term_postings;
+use postings::terms::df;
+use postings::terms::docs_with_term;
 use segment::ids::DocId;
 ghost use mathlib.Core.Path.{_≡_};
 ghost use Rattle.segment.specs.Opening.{open-segment};
-ghost use Rattle.opening.specs.Opened.{opened};
-ghost use Rattle.calls.specs.Calls.{document-len, df as df-of};
-ghost use Rattle.calls.specs.Answers.{length-answer, df-answer, Lengths-answered, Docs-answered, Postings-answered, Positions-answered};
+ghost use Rattle.opening.specs.Promise.{opened};
+ghost use Rattle.lengths.specs.Calls.{document-len};
+ghost use Rattle.postings.specs.Calls.{df as df-of};
+ghost use Rattle.lengths.specs.Answers.{length-answer, Lengths-answered};
+ghost use Rattle.postings.specs.Answers.{df-answer, Docs-answered};
+ghost use Rattle.positions.specs.Answers.{Postings-answered, Positions-answered};
 ghost use Rattle.pstp.specs.Replies.{Replied, opened-reply, length-reply, frequency-reply, counted-reply, listed-reply};
 
 // first: documents; second: terms.
@@ -49,7 +52,7 @@ pub extern "C" fn pstp_document_len(bytes: &[u8], id: u32) -> Reply
 pub extern "C" fn pstp_df(bytes: &[u8], name: &[u8]) -> Reply
     ensures { λ r. ⌜ r ≡ frequency-reply (df-answer (df-of (now (bytes .entry)) (now (name .entry)))) ⌝ }
 {
-    of_frequency(df(bytes, name))
+    of_doc_freq(df(bytes, name))
 }
 
 // first: how many documents; their ids, rising.

@@ -1,8 +1,8 @@
 // One reply for all calls: kind 0 is acceptance, with the answer's numbers; else the three numbers of a refusal.
-use calls::replies::Frequency;
-use calls::replies::Length;
-use calls::replies::Listed;
+use lengths::replies::Length;
 use opening::open_segment::Opened;
+use positions::replies::Listed;
+use postings::replies::DocFreq;
 use reading::replies::Counted;
 use segment::refusal::Refusal;
 use writer::write::Written;
@@ -67,12 +67,12 @@ pub fn of_length(a: Length) -> Reply
 }
 
 // df
-pub fn of_frequency(a: Frequency) -> Reply
+pub fn of_doc_freq(a: DocFreq) -> Reply
     ensures { λ r. ⌜ r ≡ frequency-reply a ⌝ }
 {
     match a {
-        Frequency::Df(n) => accept(n as u64, 0),
-        Frequency::Refused(x) => refuse(x),
+        DocFreq::Df(n) => accept(n as u64, 0),
+        DocFreq::Refused(x) => refuse(x),
     }
 }
 

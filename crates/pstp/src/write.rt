@@ -2,11 +2,11 @@
 use crate::reply::Reply;
 use crate::reply::of_written;
 use writer::write::write_positional_segment;
-ghost use Rattle.checking.specs.Flat.{lists};
-ghost use Rattle.writer.specs.Stores.{Wrote};
+ghost use Rattle.checking.specs.Given.{lists};
+ghost use Rattle.writer.specs.Promise.{Wrote};
 ghost use Rattle.pstp.specs.Replies.{Replied, written-reply};
 
-// Documents and terms written as a segment, at the slice's front.
+// first: how many bytes were written: documents and terms as a segment, at the slice's front.
 #[no_mangle]
 pub extern "C" fn pstp_write_positional_segment(
     ids: &[u32],

@@ -6,7 +6,7 @@ use records::write::write_positional_segment_records;
 ghost use Rattle.records.specs.Entry.{taken-apart, Wrote-records};
 ghost use Rattle.pstp.specs.Replies.{Replied, written-reply};
 
-// `ids` and `lengths` are lent for the time of the call, a place for each record; these and the records are as before on every outcome.
+// first: how many bytes were written. `ids` and `lengths` are lent for the time of the call, a place for each record; these and the records are as before on every outcome.
 #[no_mangle]
 pub extern "C" fn pstp_write_positional_segment_records(
     documents: &mut [DocumentLength],

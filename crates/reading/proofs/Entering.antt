@@ -16,11 +16,11 @@ use Rattle.segment.specs.Refusals.{postings}
 use Rattle.segment.specs.Results.{Result, ok, refuse, check}
 use Rattle.segment.specs.Records.{Read, number, at-gap, rises}
 use Rattle.segment.specs.Postings.{read-value}
-use Rattle.segment.specs.Walks.{skipped}
-use Rattle.segment.specs.Held.{rest-of}
-use Rattle.segment.specs.Spots.{Spot, value-at, spot-at, held-postings, held-positions}
+use Rattle.decoding.specs.Walks.{skipped}
+use Rattle.decoding.specs.Held.{rest-of}
+use Rattle.decoding.specs.Spots.{Spot, value-at, spot-at, held-postings, held-positions}
 use Rattle.segment.proofs.Binds.{carried, carried-ok, carried-bind, carried-check}
-use Rattle.segment.proofs.Gaps.{number-refused, number-value, carried-number}
+use Rattle.decoding.proofs.Gaps.{number-refused, number-value, carried-number}
 use Rattle.reading.specs.Cursors.{postings-at, positions-at}
 use Rattle.reading.proofs.Seeks.{Ahead, none, one}
 

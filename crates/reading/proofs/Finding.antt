@@ -8,11 +8,11 @@ use native.Mathlib.Omega.{arith}
 use lib.ListN.{length, length-drop}
 use lib.Seq.{drop-drop}
 use borrow.Author.Tests.{eq-eqb, ne-eqb}
-use Rattle.codec.specs.Crc32.{crc32Of}
+use Rattle.checksum.specs.Crc32.{crc32Of}
 use Rattle.opening.specs.declared.header.Layout.{Layout}
 use Rattle.opening.specs.declared.directory.TermEntry.the-variants as place
-use Rattle.segment.specs.declared.lists.Tally.{Tally}
-use Rattle.segment.specs.declared.lists.Tally.the-variants as tally
+use Rattle.decoding.specs.declared.lists.Tally.{Tally}
+use Rattle.decoding.specs.declared.lists.Tally.the-variants as tally
 use Rattle.segment.specs.declared.refusal.Refusal.{Refusal}
 use Rattle.segment.specs.Refusals.{checksum-mismatch, term-postings}
 use Rattle.segment.specs.Results.{Result, ok, refuse}
@@ -20,7 +20,7 @@ use Rattle.segment.specs.Records.{Document, Posting, Entry, Segment, field}
 use Rattle.segment.specs.Directory.{entry-of}
 use Rattle.segment.specs.Postings.{all-postings, decode, total-positions}
 use Rattle.opening.specs.Layouts.{cut}
-use Rattle.segment.specs.Walks.{tallied}
+use Rattle.decoding.specs.Walks.{tallied}
 use Rattle.opening.specs.Terms.{Entry-inside, Located}
 use Rattle.opening.specs.Opened.{Is-open}
 use Rattle.opening.proofs.Checks.{to-end}

@@ -5,3 +5,4 @@ pub mod Rising
 pub mod Finding
 pub mod Longer
 pub mod Naming
+pub mod Filling

@@ -9,19 +9,19 @@ use native.Mathlib.Omega.{arith}
 use lib.Dec.{ltb, leb, eqb}
 use lib.ListN.{length, drop, length-map, take-append-drop}
 use lib.Seq.{drop-append-le}
-use Rattle.codec.specs.Crc32.{crc32Of}
+use Rattle.checksum.specs.Crc32.{crc32Of}
 use Rattle.codec.specs.Leb128.{Leb, below, uleb128, limited, stored}
 use Rattle.segment.specs.Refusals.{postings}
 use Rattle.segment.specs.Results.{Result, ok, refuse}
 use Rattle.segment.specs.Records.{Document, Posting, Read, number}
 use Rattle.segment.specs.Postings.{all-postings, decode}
-use Rattle.segment.specs.Walks.{skipped}
-use Rattle.segment.specs.Spots.{Spot, on-value, on-spot, value-at, spot-at, held-positions, held-postings, spot-positions, posting-of, Full, Fulls}
+use Rattle.decoding.specs.Walks.{skipped}
+use Rattle.decoding.specs.Spots.{Spot, on-value, on-spot, value-at, spot-at, held-positions, held-postings, spot-positions, posting-of, Full, Fulls}
 use Rattle.segment.proofs.Binds.{ok-same, bind-gives}
 use Rattle.segment.proofs.Accepted.{check-gives}
-use Rattle.segment.proofs.Gaps.{size-fits}
-use Rattle.segment.proofs.Value-reads.{Number-read, number-read, number-any, Value-read, value-read, value-any, value-skipped}
-use Rattle.segment.proofs.Posting-reads.{Postings-read, all-postings-read}
+use Rattle.decoding.proofs.Gaps.{size-fits}
+use Rattle.decoding.proofs.Value-reads.{Number-read, number-read, number-any, Value-read, value-read, value-any, value-skipped}
+use Rattle.decoding.proofs.Posting-reads.{Postings-read, all-postings-read}
 use Rattle.reading.specs.declared.term.TermList.{TermList}
 use Rattle.reading.specs.Found.{list-bytes, list-entry}
 
@@ -125,7 +125,7 @@ module _ (b : List ℕ) where
   same-positions {s} f = positions-longer (s .count) none (s .bytes) (f .long) .0
 
   full-longer : {s : Spot} → Full s → Full (spot-before b s)
-  full-longer f = record { any = f .any; long = rw (same-positions f) (f .long); rise = rw (same-positions f) (f .rise) }
+  full-longer f = record { has-positions = f .has-positions; long = rw (same-positions f) (f .long); rise = rw (same-positions f) (f .rise) }
 
   fulls-longer : (previous : Option ℕ) (ss : List Spot) → Fulls previous ss → Fulls previous (map (spot-before b) ss)
   fulls-longer previous [] f = tt

@@ -7,8 +7,8 @@ use Prim.Native.Nat.{ℕ, _≤_}
 use lib.Dec.{leb}
 use lib.ListN.{length}
 use borrow.Author.Tests.{leb-true, le-leb}
-use Rattle.codec.specs.Utf8.{utf8}
-use Rattle.codec.proofs.Text.{grammar-agrees}
+use Rattle.encoding.specs.Utf8.{utf8}
+use Rattle.encoding.proofs.Text.{grammar-agrees}
 use Rattle.segment.specs.Results.{ok, refuse, _>>=_, check}
 use Rattle.segment.specs.Refusals.{invalid-utf8}
 use Rattle.segment.proofs.Binds.{refuse-ok}

@@ -14,8 +14,8 @@ use Rattle.segment.specs.Refusals.{postings}
 use Rattle.segment.specs.Results.{Result, ok, refuse}
 use Rattle.segment.specs.Records.{Read, number, at-gap, rises}
 use Rattle.segment.specs.Postings.{read-value}
-use Rattle.segment.specs.Walks.{skipped}
-use Rattle.segment.specs.Spots.{Spot, on-value, on-spot, value-at, spot-at, held-postings, held-positions}
+use Rattle.decoding.specs.Walks.{skipped}
+use Rattle.decoding.specs.Spots.{Spot, on-value, on-spot, value-at, spot-at, held-postings, held-positions}
 use Rattle.segment.proofs.Binds.{bind-gives, both-gives}
 use Rattle.reading.specs.Cursors.{positions-at, postings-at}
 

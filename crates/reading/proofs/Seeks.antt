@@ -8,7 +8,7 @@ use native.Mathlib.Omega.{arith}
 use lib.Dec.{ltb}
 use lib.ListN.{length}
 use borrow.Author.Tests.{lt-ltb, le-ltb, ltb-true}
-use Rattle.segment.specs.Held.{rest-of, seek-in}
+use Rattle.decoding.specs.Held.{rest-of, seek-in}
 
 -- what a cursor shows: nothing where none is left, else first an element of the key that it stands on
 pub data Ahead {A : Type 0} (key : A → ℕ) (k : ℕ) : ℕ → List A → Type 0 where

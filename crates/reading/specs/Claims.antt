@@ -4,7 +4,7 @@ use mathlib.Core.Path.{_≡_}
 use mathlib.Core.List.{List}
 use mathlib.Core.Logic.{_↔_}
 use lib.ListN.{length}
-use Rattle.codec.specs.Utf8.{Is-utf8}
+use Rattle.encoding.specs.Utf8.{Is-utf8}
 use Rattle.segment.specs.Results.{ok}
 use Rattle.reading.specs.Lookups.{named}
 

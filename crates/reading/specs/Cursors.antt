@@ -4,9 +4,9 @@ use mathlib.Core.Path.{_≡_}
 use mathlib.Core.List.{List, [], _∷_}
 use mathlib.Core.Option.{Option, some}
 use lib.ListN.{drop}
-use Rattle.segment.specs.Walks.{skipped}
-use Rattle.segment.specs.Held.{rest-of, seek-in}
-use Rattle.segment.specs.Spots.{Spot, held-postings, held-positions}
+use Rattle.decoding.specs.Walks.{skipped}
+use Rattle.decoding.specs.Held.{rest-of, seek-in}
+use Rattle.decoding.specs.Spots.{Spot, held-postings, held-positions}
 use Rattle.reading.specs.declared.postings.Postings.{Postings}
 use Rattle.reading.specs.declared.positions.Positions.{Positions}
 

@@ -6,3 +6,4 @@ pub mod Claims
 -- What the cursors and the code's answers stand for:
 pub mod Cursors
 pub mod Found
+pub mod Stored

@@ -5,8 +5,8 @@ use mathlib.Core.List.{List, [], _∷_}
 use mathlib.Core.Option.{Option, none, some}
 use lib.Dec.{leb, eqb}
 use lib.ListN.{length}
-use Rattle.codec.specs.Utf8.{utf8}
-use Rattle.segment.specs.Refusals.{too-large, invalid-utf8, no-room}
+use Rattle.encoding.specs.Utf8.{utf8}
+use Rattle.segment.specs.Refusals.{too-large, invalid-utf8}
 use Rattle.segment.specs.Results.{Result, ok, refuse, _>>=_, check}
 use Rattle.segment.specs.Records.{Document, Posting, Entry, Segment}
 use Rattle.segment.specs.Directory.{entry-of}
@@ -17,10 +17,6 @@ unfoldable pub named : (name : List ℕ) → Result (Unit {0})
 named name = do
   _ ← check (leb (length name) 16777216) too-large
   check (utf8 name) invalid-utf8
-
--- 13: the answer has more elements than the buffer has places
-abbrev pub roomy : (buffer needed room : ℕ) → Result (Unit {0})
-roomy buffer needed room = check (leb needed room) (no-room buffer needed)
 
 -- the postings of a term, decoded; none for an unknown term
 abbrev pub found : List Document → Option Entry → Result (List Posting)

@@ -3,7 +3,7 @@
 //   postings   a cursor over the postings of a list
 //   positions  a cursor over the positions of a posting
 //   term       a term found by its name, its list decoded
-// The calls stand in the crates `calls` and `search`.
+// The calls stand in the crates `lengths`, `postings`, `positions` and `search`.
 pub mod positions;
 pub mod postings;
 pub mod replies;

@@ -1,16 +1,16 @@
-// A cursor over the positions of a posting, in the same way.
+// A cursor over the positions of a posting, as postings.rt has one over the postings of a list.
 use crate::postings::Postings;
 use codec::varint::Reader;
+use decoding::values::ValueStep;
+use decoding::values::read_value;
 use segment::ids::TokenPos;
 use segment::refusal::NON_INCREASING_POSITION;
 use segment::refusal::POSITION_OVERFLOW;
-use segment::values::ValueStep;
-use segment::values::read_value;
 ghost use mathlib.Core.Path.{_≡_};
 ghost use mathlib.Core.Option.{none};
 ghost use lib.ListN.{drop};
-ghost use Rattle.segment.specs.Walks.{earlier};
-ghost use Rattle.segment.specs.Spots.{held-positions};
+ghost use Rattle.segment.specs.Answers.{earlier};
+ghost use Rattle.decoding.specs.Spots.{held-positions};
 ghost use Rattle.reading.specs.Cursors.{positions-from, Entered-positions, Advanced-positions, Sought-position};
 
 // A place in a posting's positions: `left` are to come, the first of them is `pos`, and the gap after it stands at `at`.

@@ -1,17 +1,17 @@
 // A cursor over the postings of a list. It demands nothing of the bytes: where the next posting would be refused, none is left.
 use codec::varint::Decoded;
 use codec::varint::Reader;
+use decoding::values::ValueStep;
+use decoding::values::read_value;
+use decoding::values::skip;
 use segment::ids::DocId;
 use segment::refusal::DOC_ID_OVERFLOW;
 use segment::refusal::NON_INCREASING_POSTING_ID;
-use segment::values::ValueStep;
-use segment::values::read_value;
-use segment::values::skip;
 ghost use mathlib.Core.Path.{_≡_};
 ghost use mathlib.Core.Option.{none};
 ghost use lib.ListN.{drop};
-ghost use Rattle.segment.specs.Walks.{earlier};
-ghost use Rattle.segment.specs.Spots.{held-postings};
+ghost use Rattle.segment.specs.Answers.{earlier};
+ghost use Rattle.decoding.specs.Spots.{held-postings};
 ghost use Rattle.reading.specs.Cursors.{postings-from, Entered-postings, Advanced-postings, Sought-posting};
 
 // A place in a list: `left` postings are to come, the first of them is of document `doc`, and its `count` positions stand from `at`.

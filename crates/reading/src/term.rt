@@ -1,12 +1,12 @@
 // A term found in an open segment, and its posting list decoded.
-use codec::crc32::crc32;
+use checksum::crc32::crc32;
+use decoding::lists::Tally;
+use decoding::lists::decode_postings_bytes;
 use opening::directory::TermEntry;
 use opening::directory::term_entry;
 use opening::header::Layout;
 use segment::fixed::read_u32_at;
 use segment::fixed::read_usize_at;
-use segment::lists::Tally;
-use segment::lists::decode_postings_bytes;
 use segment::refusal::CHECKSUM_MISMATCH;
 use segment::refusal::Refusal;
 use segment::refusal::TERM_POSTINGS;
@@ -15,9 +15,9 @@ ghost use mathlib.Core.Option.{none};
 ghost use Prim.Native.Nat.{_≤_};
 ghost use lib.ListN.{length};
 ghost use Rattle.opening.specs.Layouts.{Ordered, cut};
-ghost use Rattle.segment.specs.Held.{held-documents};
+ghost use Rattle.decoding.specs.Held.{held-documents};
 ghost use Rattle.segment.specs.Postings.{decode};
-ghost use Rattle.segment.specs.Walks.{tallied};
+ghost use Rattle.decoding.specs.Walks.{tallied};
 ghost use Rattle.reading.specs.Found.{Opened-as, List-inside, Term-found, list-entry};
 
 // A term's list: its entry's place in the directory, where it lies in the segment, how many postings it has, its checksum.

@@ -9,17 +9,16 @@ use lib.ListN.{length, length-map}
 use borrow.Author.Tests.{eqb-true, eq-eqb}
 use Rattle.codec.proofs.Loops.{and-left, and-right}
 use Rattle.segment.specs.declared.refusal.Refusal.{Refusal}
-use Rattle.segment.specs.declared.metadata.Checked.the-variants as check
+use Rattle.segment.specs.declared.checked.Checked.the-variants as check
 use Rattle.segment.specs.Refusals.{too-large, list-shape}
 use Rattle.segment.specs.Results.{Result, ok, refuse}
-use Rattle.segment.specs.Walks.{checked}
+use Rattle.segment.specs.Answers.{checked}
 use Rattle.writer.specs.declared.write.Written.{Written}
 use Rattle.writer.specs.declared.write.Written.the-variants as written
-use Rattle.checking.specs.Given.{Lists}
-use Rattle.checking.specs.Flat.{lists}
+use Rattle.checking.specs.Given.{Lists, lists}
 use Rattle.checking.specs.Checks.{small, check-lists}
 use Rattle.writer.specs.Writing.{write}
-use Rattle.writer.specs.Stores.{Wrote}
+use Rattle.writer.specs.Promise.{Wrote}
 use Rattle.segment.proofs.Accepted.{refused-is, passed-ok}
 use Rattle.records.specs.declared.exchange.DocumentLength.{DocumentLength}
 use Rattle.records.specs.Entry.{taken-apart, write-records, Wrote-records}

@@ -8,11 +8,10 @@ use lib.ListN.{length}
 use Rattle.segment.specs.Refusals.{too-large, list-shape}
 use Rattle.segment.specs.Results.{Result, _>>=_, check}
 use Rattle.writer.specs.declared.write.Written.{Written}
-use Rattle.checking.specs.Given.{Lists}
-use Rattle.checking.specs.Flat.{lists}
+use Rattle.checking.specs.Given.{Lists, lists}
 use Rattle.checking.specs.Checks.{small}
 use Rattle.writer.specs.Writing.{write}
-use Rattle.writer.specs.Stores.{length-of-written, slice-after}
+use Rattle.writer.specs.Promise.{length-of-written, slice-after}
 use Rattle.records.specs.declared.exchange.DocumentLength.{DocumentLength}
 
 -- the writer's eight lists: the records taken apart, and the six others

@@ -27,7 +27,8 @@ fn shortest(a: usize, b: usize, c: usize) -> usize
     a
 }
 
-// As far as the shortest of the three goes.
+// Exchanges, place by place, a record's id with the number in `ids` and its length with the number in `lengths`, as far as the shortest of the
+// three goes. Done twice, it changes nothing.
 pub fn exchange(documents: &mut [DocumentLength], ids: &mut [u32], lengths: &mut [u32])
     ensures { λ _. ⌜ three (now (documents .exit)) (now (ids .exit)) (now (lengths .exit)) ≡ exchanged (now (documents .entry)) (now (ids .entry)) (now (lengths .entry)) ⌝ }
 {

@@ -2,7 +2,7 @@
 use crate::exchange::DocumentLength;
 use crate::exchange::exchange;
 use checking::shape::is_small;
-use segment::metadata::Checked;
+use segment::checked::Checked;
 use segment::refusal::LIMIT;
 use segment::refusal::LIST_SHAPE;
 use segment::refusal::Refusal;
@@ -10,8 +10,8 @@ use segment::refusal::TOO_LARGE;
 use writer::write::Written;
 use writer::write::write_positional_segment;
 ghost use mathlib.Core.Path.{_≡_};
-ghost use Rattle.segment.specs.Walks.{checked};
-ghost use Rattle.checking.specs.Flat.{lists};
+ghost use Rattle.segment.specs.Answers.{checked};
+ghost use Rattle.checking.specs.Given.{lists};
 ghost use Rattle.records.specs.Apart.{misfit, check-places as places-checks, Wrote-apart};
 ghost use Rattle.records.specs.Entry.{taken-apart, Wrote-records};
 

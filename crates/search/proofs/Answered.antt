@@ -11,14 +11,15 @@ use lib.ListN.{length, length-map, drop, getD}
 use lib.Seq.{sets-eq}
 use borrow.Author.Tests.{le-leb, lt-leb}
 use Rattle.opening.specs.declared.header.Layout.{Layout}
-use Rattle.segment.specs.declared.metadata.Checked.the-variants as check
+use Rattle.segment.specs.declared.checked.Checked.the-variants as check
 use Rattle.segment.specs.declared.refusal.Refusal.{Refusal}
 use Rattle.segment.specs.Refusals.{no-room}
 use Rattle.segment.specs.Results.{Result, ok, refuse}
 use Rattle.segment.specs.Records.{Posting, Term}
 use Rattle.segment.specs.Postings.{decode}
-use Rattle.segment.specs.Walks.{checked, skipped}
-use Rattle.segment.specs.Spots.{Spot, posting-of, on-spot, spot-at, held-postings}
+use Rattle.segment.specs.Answers.{checked}
+use Rattle.decoding.specs.Walks.{skipped}
+use Rattle.decoding.specs.Spots.{Spot, posting-of, on-spot, spot-at, held-postings}
 use Rattle.segment.proofs.Accepted.{passed-ok, refused-is}
 use Rattle.segment.proofs.Binds.{ok-same}
 use Rattle.reading.specs.declared.postings.Postings.{Postings}
@@ -30,23 +31,29 @@ use Rattle.reading.specs.Found.{Opened-as, Term-found, list-entry}
 use Rattle.reading.specs.Lookups.{postings-of, positions-of}
 use Rattle.reading.proofs.Finding.{nameless}
 use Rattle.reading.proofs.Longer.{decoded-walked}
-use Rattle.search.specs.declared.document.Ask.{Ask}
-use Rattle.search.specs.declared.slots.Slots.{Slots}
-use Rattle.search.specs.Members.{kept}
+use Rattle.walking.specs.declared.document.Ask.{Ask}
+use Rattle.naming.specs.declared.slots.Slots.{Slots}
+use Rattle.rules.specs.Members.{kept}
 use Rattle.segment.specs.Elements.{_∈_, Rising}
-use Rattle.search.specs.Questions.{under, own, different, decode-names, answer, answers}
-use Rattle.search.specs.Standing.{rule-of, no-posting, In-slots}
-use Rattle.search.specs.Walked.{list-of, Found-ids, Documents-found}
-use Rattle.search.specs.Decoded.{Lists-inside, decode-from, lists-decoded, Slots-long, Heads, Askable, answer-in, Replies}
-use Rattle.search.proofs.Membership.{at-place}
-use Rattle.search.proofs.Kept.{kept-fewer}
-use Rattle.search.proofs.Decoding.{verdict, verdict-refused, verdict-ok, asked-under}
-use Rattle.search.proofs.Answering.{docs, ids, met, answer-of-name, awake-is, some-named, answers-found, answers-refused}
-use Rattle.search.proofs.Slots-named.{Holding, list-at}
-use Rattle.search.proofs.Slots-used.{slot-list, slot-below, in-slots, numbers, lists-decode}
-use Rattle.search.proofs.Walks.{rising}
+use Rattle.rules.specs.Different.{different}
+use Rattle.naming.specs.Named.{under, own, decode-names}
+use Rattle.search.specs.Questions.{answer, answers}
+use Rattle.naming.specs.Numbered.{In-slots}
+use Rattle.naming.specs.Decoded.{no-posting, Lists-inside, decode-from, lists-decoded, Slots-long, Heads}
+use Rattle.walking.specs.Asks.{rule-of}
+use Rattle.walking.specs.Walked.{list-of, Found-ids, Documents-found}
+use Rattle.search.specs.Replies.{Askable, answer-in, Replies}
+use Rattle.rules.proofs.Membership.{at-place}
+use Rattle.rules.proofs.Kept.{kept-fewer}
+use Rattle.naming.proofs.Decoding.{verdict, verdict-refused, verdict-ok, asked-under}
+use Rattle.rules.proofs.Idle.{awake-is, some-named}
+use Rattle.walking.proofs.Posted.{docs, ids}
+use Rattle.search.proofs.Answering.{met, answer-of-name, answers-found, answers-refused}
+use Rattle.naming.proofs.Slots-named.{Holding, list-at}
+use Rattle.naming.proofs.Slots-used.{slot-list, slot-below, in-slots, numbers, lists-decode}
+use Rattle.walking.proofs.Walks.{rising}
 use Rattle.search.proofs.Known.{open-rise, decoded-known}
-use Rattle.search.proofs.Resolving.{told, names-held}
+use Rattle.naming.proofs.Resolving.{told, names-held}
 
 -- ---- no more postings than a cursor says
 

@@ -1,61 +1,32 @@
 -- The calls: the checks of a question, the opening, the search behind them.
 -- Assumes nothing.
 use mathlib.Core.Path.{_≡_, refl, _∙_}
-use mathlib.Core.Bool.{Bool, true, false, _&&_, and-false}
+use mathlib.Core.Bool.{true}
 use mathlib.Core.List.{List, [], _∷_}
-use mathlib.Core.Logic.{_⊎_, inl, inr}
-use Prim.Native.Nat.{ℕ, _≤_, _<_}
+use Prim.Native.Nat.{ℕ, _≤_}
 use native.Mathlib.Omega.{arith}
-use lib.Dec.{leb}
 use lib.ListN.{length}
-use borrow.Author.Tests.{le-leb, lt-leb}
-use Rattle.codec.specs.Utf8.{utf8}
-use Rattle.segment.specs.declared.metadata.Checked.the-variants as check
+use borrow.Author.Tests.{le-leb}
+use Rattle.segment.specs.declared.checked.Checked.the-variants as check
 use Rattle.segment.specs.declared.refusal.Refusal.{Refusal}
-use Rattle.segment.specs.Refusals.{too-large, invalid-utf8}
 use Rattle.segment.specs.Results.{Result, ok, refuse, _>>=_}
-use Rattle.segment.specs.Results as results
 use Rattle.segment.specs.Records.{Segment}
 use Rattle.segment.specs.Texts.{ends-fit, names}
 use Rattle.segment.specs.Opening.{open-segment}
-use Rattle.segment.specs.Walks.{checked}
+use Rattle.segment.specs.Answers.{checked}
 use Rattle.segment.proofs.Accepted.{passed-ok, refused-is}
 use Rattle.reading.specs.declared.replies.Counted.{Counted}
 use Rattle.reading.specs.declared.replies.Counted.the-variants as counted
-use Rattle.search.specs.declared.document.Ask.{Ask}
-use Rattle.search.specs.Questions.{Rule, Unordered, idle, search, check-names, check-question, search-text, search-two}
-use Rattle.search.specs.Standing.{rule-of}
-use Rattle.search.specs.Decoded.{two-checks, answer-in, Replies}
+use Rattle.walking.specs.declared.document.Ask.{Ask}
+use Rattle.rules.specs.Kinds.{Rule, Unordered, idle}
+use Rattle.naming.specs.Checks.{check-question, two-checks}
+use Rattle.search.specs.Questions.{search, search-text, search-two}
+use Rattle.walking.specs.Asks.{rule-of}
 use Rattle.search.specs.Asked.{Text-answered, Two-answered}
+use Rattle.search.specs.Replies.{answer-in, Replies}
 use Rattle.segment.proofs.Shapes.{shape-is}
-use Rattle.search.proofs.Well-formed.{passes-exactly}
+use Rattle.naming.proofs.Well-formed.{passes-exactly}
 use Rattle.search.proofs.Answering.{answers-idle}
-
--- ---- two names
-
-module _ (a b : List ℕ) where
-  pub two-large : (16777216 < length a) ⊎ (16777216 < length b) → refuse too-large ≡ two-checks a b
-  unfolding two-checks
-  two-large (inl h) = rw (lt-leb (length a) 16777216 h)
-  two-large (inr h) = rw (lt-leb (length b) 16777216 h, and-false (leb (length a) 16777216))
-
-  module _ (first : length a ≤ 16777216) (second : length b ≤ 16777216) where
-    two-small : check-names (a ∷ b ∷ []) ≡ two-checks a b
-    unfolding two-checks
-    two-small = rw (le-leb (length a) 16777216 first, le-leb (length b) 16777216 second)
-
-    pub two-bytes : (utf8 a ≡ false) ⊎ (utf8 b ≡ false) → refuse invalid-utf8 ≡ two-checks a b
-    unfolding check-names
-    two-bytes (inl e) = rw (← two-small, e)
-    two-bytes (inr e) = rw (← two-small, e) (step (utf8 a))
-      where
-        step : (t : Bool) → _≡_ {A = Result (Unit {0})} (refuse invalid-utf8) (results.check t invalid-utf8 >>= λ _. refuse invalid-utf8)
-        step true = refl
-        step false = refl
-
-    pub two-fine : utf8 a ≡ true → utf8 b ≡ true → ok tt ≡ two-checks a b
-    unfolding check-names
-    two-fine e f = rw (← two-small, e, f)
 
 -- ---- behind the checks
 
@@ -106,18 +77,10 @@ pub two-reply : {bytes : List ℕ} {window : ℕ} {a b ids : List ℕ} {r : Coun
 two-reply p = record { reply = p .0; left = p .1 }
 
 module _ (bytes : List ℕ) (window : ℕ) (a b : List ℕ) (room : ℕ) where
-  two-search : search-two bytes window a b room ≡ (two-checks a b >>= λ _. search bytes (Unordered window) (a ∷ b ∷ []) room)
-  unfolding search-two two-checks
-  two-search =
-      step (results.check (leb (length a) 16777216 && leb (length b) 16777216) too-large) (check-names (a ∷ b ∷ []))
-      (search bytes (Unordered window) (a ∷ b ∷ []) room)
-    where
-      step : (r t : Result (Unit {0})) (next : Result (List ℕ)) → (r >>= λ _. t >>= λ _. next) ≡ ((r >>= λ _. t) >>= λ _. next)
-      step (ok u) t next = refl
-      step (refuse x) t next = refl
-
   pub two-stops : {x : Refusal} → check.Refused x ≡ checked (two-checks a b) → search-two bytes window a b room ≡ refuse x
-  two-stops e = two-search ∙ rw (refused-is (two-checks a b) e)
+  unfolding search-two
+  two-stops e = rw (refused-is (two-checks a b) e)
 
   pub two-goes : check.Passed ≡ checked (two-checks a b) → search-two bytes window a b room ≡ search bytes (Unordered window) (a ∷ b ∷ []) room
-  two-goes e = two-search ∙ rw (passed-ok (two-checks a b) e .1)
+  unfolding search-two
+  two-goes e = rw (passed-ok (two-checks a b) e .1)

@@ -10,22 +10,22 @@ use native.Mathlib.Omega.{arith}
 use lib.Dec.{eqb}
 use lib.ListN.{length}
 use borrow.Author.Tests.{eqb-true}
-use Rattle.codec.specs.Crc32.{crc32Of}
+use Rattle.checksum.specs.Crc32.{crc32Of}
 use Rattle.opening.specs.declared.header.Layout.{Layout}
 use Rattle.segment.specs.Results.{ok}
 use Rattle.segment.specs.Records.{Document, Posting, Entry, Segment, Read}
 use Rattle.segment.specs.Metadata.{length-of}
 use Rattle.segment.specs.Postings.{read-head, read-positions, read-posting, read-postings, all-postings, decode}
 use Rattle.opening.specs.Layouts.{cut}
-use Rattle.segment.specs.Held.{held-documents}
+use Rattle.decoding.specs.Held.{held-documents}
 use Rattle.opening.specs.Opened.{Is-open}
 use Rattle.segment.proofs.Binds.{ok-same, bind-gives}
 use Rattle.segment.proofs.Accepted.{check-gives}
-use Rattle.segment.proofs.Posting-reads.{head-read}
-use Rattle.segment.proofs.Documents-held.{held-rise}
-use Rattle.segment.proofs.Documents-held as documents
+use Rattle.decoding.proofs.Posting-reads.{head-read}
+use Rattle.decoding.proofs.Documents-held.{held-rise}
+use Rattle.decoding.proofs.Documents-held as documents
 use Rattle.segment.specs.Elements.{_∈_, Rising}
-use Rattle.search.proofs.Answering.{docs, ids}
+use Rattle.walking.proofs.Posted.{docs, ids}
 
 -- ---- the segment's ids
 

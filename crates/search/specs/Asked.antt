@@ -6,10 +6,10 @@ use mathlib.Core.List.{List}
 use lib.ListN.{length}
 use Rattle.reading.specs.declared.replies.Counted.{Counted}
 use Rattle.reading.specs.Answers.{count-of, filled}
-use Rattle.search.specs.declared.document.Ask.{Ask}
-use Rattle.search.specs.declared.document.Ask.the-variants as ask
+use Rattle.walking.specs.declared.document.Ask.{Ask}
+use Rattle.walking.specs.declared.document.Ask.the-variants as ask
+use Rattle.walking.specs.Asks.{rule-of}
 use Rattle.search.specs.Questions.{search-text, search-two}
-use Rattle.search.specs.Standing.{rule-of}
 
 -- ordered or in any order
 abbrev pub near-ask : Bool → ℕ → Ask

@@ -1,52 +1,26 @@
 // The three questions.
-use crate::document::Ask;
-use crate::lists::decode_lists;
-use crate::lists::resolve;
-use crate::question::check_question;
-use crate::slots::Slots;
-use crate::walk::walk;
-use codec::utf8::is_utf8;
+use naming::lists::decode_lists;
+use naming::lists::heads_of;
+use naming::lists::resolve;
+use naming::question::check_question;
+use naming::question::check_two;
+use naming::slots::Slots;
 use opening::header::Layout;
 use opening::open_segment::Opening;
 use opening::open_segment::open_layout;
-use reading::postings::Postings;
 use reading::replies::Counted;
 use reading::term::find_term;
+use segment::checked::Checked;
 use segment::fixed::long;
-use segment::ids::DocId;
-use segment::metadata::Checked;
-use segment::refusal::INVALID_UTF8;
-use segment::refusal::LIMIT;
 use segment::refusal::NO_ROOM;
 use segment::refusal::Refusal;
-use segment::refusal::TOO_LARGE;
+use walking::document::Ask;
+use walking::walk::walk;
 ghost use mathlib.Core.Path.{_≡_};
-ghost use Rattle.segment.specs.Walks.{checked};
-ghost use Rattle.search.specs.Questions.{idle};
-ghost use Rattle.search.specs.Standing.{rule-of};
+ghost use Rattle.rules.specs.Kinds.{idle};
+ghost use Rattle.walking.specs.Asks.{rule-of};
 ghost use Rattle.search.specs.Asked.{near-ask, Text-answered, Two-answered};
-ghost use Rattle.search.specs.Decoded.{two-checks, Slots-long, Heads, Askable, Slots-answered};
-
-// A cursor at the first posting of each different term's list.
-fn heads_of(bytes: &[u8], slots: Slots) -> [Postings; 128]
-    requires { ⌜ Slots-long slots ⌝ }
-    ensures { λ r. ⌜ Heads (now (bytes .entry)) slots r ⌝ }
-{
-    let mut heads = [Postings {
-        at: 0,
-        count: 0,
-        left: 0,
-        doc: DocId(0),
-    }; 128];
-    let lists = slots.list;
-    let mut k: usize = 0;
-    while k < slots.different {
-        let list = lists[k];
-        heads[k] = Postings::start(bytes, list.start, list.df);
-        k += 1;
-    }
-    heads
-}
+ghost use Rattle.search.specs.Replies.{Askable, Slots-answered};
 
 // The answer for resolved names that are not idle: every list decoded, then the documents counted, 13 tested, the ids stored.
 fn answer_slots(bytes: &[u8], at: Layout, ask: Ask, slots: Slots, ids: &mut [u32]) -> Counted
@@ -149,27 +123,6 @@ pub fn near_match_terms_strs(
         return search_text(bytes, Ask::Ordered(window), text, ends, ids);
     }
     search_text(bytes, Ask::Unordered(window), text, ends, ids)
-}
-
-// Two names: 12, then 10, each of both before the next.
-fn check_two(a: &[u8], b: &[u8]) -> Checked
-    ensures { λ r. ⌜ r ≡ checked (two-checks (now (a .entry)) (now (b .entry))) ⌝ }
-{
-    if LIMIT < a.len() || LIMIT < b.len() {
-        return Checked::Refused(Refusal {
-            kind: TOO_LARGE,
-            which: 0,
-            index: 0,
-        });
-    }
-    if !is_utf8(a) || !is_utf8(b) {
-        return Checked::Refused(Refusal {
-            kind: INVALID_UTF8,
-            which: 0,
-            index: 0,
-        });
-    }
-    Checked::Passed
 }
 
 // The documents in which two names stand within a window, in any order: how many, and their ids, rising; or the first refusal in document

@@ -1,14 +1,17 @@
--- What a check that was passed says, and what the code's answer of a check says.
+-- What a check that was passed says, and what the code's answers say: of a check, and of the value before.
 -- Assumes nothing.
 use mathlib.Core.Path.{_≡_, refl}
 use mathlib.Core.Bool.{Bool, true, false}
-use Prim.Native.Nat.{ℕ}
+use mathlib.Core.Option.{some}
+use Prim.Native.Nat.{ℕ, _+_}
 use native.Mathlib.Omega.{arith}
+use lib.Dec.{eqb}
+use borrow.Author.Tests.{ne-eqb}
 use Rattle.segment.specs.declared.refusal.Refusal.{Refusal}
-use Rattle.segment.specs.declared.metadata.Checked.{Checked}
-use Rattle.segment.specs.declared.metadata.Checked.the-variants.{Passed, Refused}
+use Rattle.segment.specs.declared.checked.Checked.{Checked}
+use Rattle.segment.specs.declared.checked.Checked.the-variants.{Passed, Refused}
 use Rattle.segment.specs.Results.{Result, ok, refuse, _>>=_, check}
-use Rattle.segment.specs.Walks.{checked}
+use Rattle.segment.specs.Answers.{earlier, checked}
 use Rattle.segment.proofs.Binds.{refuse-ok}
 
 pub check-gives : {B : Type 0} (t : Bool) (x : Refusal) (f : Unit {0} → Result B) {b : B} → check t x >>= f ≡ ok b
@@ -38,3 +41,7 @@ goes (refuse x) f e h = let z : _≡_ {A = ℕ} 0 1 = cc in absurd (omega arith)
 pub same-check : {A B : Type 0} (r : Result A) (f : A → B) → checked (r >>= λ a. ok (f a)) ≡ checked r
 same-check (ok a) f = refl
 same-check (refuse x) f = refl
+
+-- past the first there is one before
+pub earlier-next : {A : Type 0} (i : ℕ) (p : A) → earlier (eqb (i + 1) 0) p ≡ some p
+earlier-next i p = rw (ne-eqb (i + 1) 0 (λ e. omega arith))

@@ -5,7 +5,7 @@ use mathlib.Core.List.{List, [], _∷_}
 use mathlib.Core.Option.{Option, none, some}
 use lib.Dec.{ltb, leb, eqb}
 use lib.ListN.{length, take, drop}
-use Rattle.codec.specs.Utf8.{utf8}
+use Rattle.encoding.specs.Utf8.{utf8}
 use Rattle.segment.specs.Refusals.{postings, term-bytes, truncated, invalid-utf8, invalid-layout, section-range-overflow, directory-length-mismatch, empty-term, non-increasing-term, empty-term-posting-list}
 use Rattle.segment.specs.Results.{Result, ok, refuse, _>>=_, check}
 use Rattle.segment.specs.Records.{Entry, field}

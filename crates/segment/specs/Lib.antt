@@ -7,12 +7,11 @@ pub mod Metadata
 pub mod Directory
 pub mod Postings
 pub mod Opening
+pub mod Contents
 pub mod Texts
 pub mod Elements
 -- What is claimed of it:
 pub mod Claims
--- What the code's answers and cursors stand for:
+-- What the code's answers stand for:
 pub mod Orders
-pub mod Walks
-pub mod Held
-pub mod Spots
+pub mod Answers

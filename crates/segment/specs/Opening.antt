@@ -3,7 +3,7 @@ use Prim.Native.Nat.{ℕ, _+_}
 use mathlib.Core.List.{List, [], _∷_}
 use lib.Dec.{leb, eqb}
 use lib.ListN.{length, take}
-use Rattle.codec.specs.Crc32.{crc32Of}
+use Rattle.checksum.specs.Crc32.{crc32Of}
 use Rattle.segment.specs.Refusals.{header, term-directory, term-bytes, document-metadata, postings, truncated, invalid-magic, unsupported-version, unsupported-flags, checksum-mismatch, invalid-layout, trailing-bytes}
 use Rattle.segment.specs.Results.{Result, ok, refuse, _>>=_, check}
 use Rattle.segment.specs.Records.{Segment, field}

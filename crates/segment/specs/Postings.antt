@@ -6,7 +6,7 @@ use mathlib.Core.Bool.{cond}
 use mathlib.Core.Option.{Option, none, some}
 use lib.Dec.{ltb, eqb}
 use lib.ListN.{length}
-use Rattle.codec.specs.Crc32.{crc32Of}
+use Rattle.checksum.specs.Crc32.{crc32Of}
 use Rattle.segment.specs.declared.refusal.Refusal.{Refusal}
 use Rattle.segment.specs.Refusals.{postings, term-postings, checksum-mismatch, doc-id-overflow, position-overflow, invalid-layout, non-increasing-posting-id, unknown-document, empty-position-list, non-increasing-position, position-exceeds-length, trailing-posting-bytes}
 use Rattle.segment.specs.Results.{Result, ok, refuse, _>>=_, check}

@@ -24,6 +24,11 @@ pub record Term : Type 0 where
   pub name : List ℕ
   pub postings : List Posting
 
+-- What a segment says, and what is handed to the writer: documents, and terms with their postings
+pub record Given : Type 0 where
+  pub documents : List Document
+  pub terms : List Term
+
 -- A directory entry by content: the name, the bytes of its posting list, the number of postings, the checksum of those bytes
 pub record Entry : Type 0 where
   pub name : List ℕ

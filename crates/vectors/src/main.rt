@@ -1,11 +1,11 @@
 // Published vectors, run one by one. What each must give stands in the file stdout, written from the publications and not from a run;
 // the checksums of messages that were published for another digest are zlib's.
-use codec::crc32::crc32;
-use codec::utf8::is_utf8;
+use checksum::crc32::crc32;
 use codec::varint::Decoded;
 use codec::varint::Reader;
 use codec::varint::encode_u32;
 use codec::varint::encoded_len;
+use encoding::utf8::is_utf8;
 use libc::STDOUT_FILENO;
 ghost use Prim.Native.Nat.{_≤_};
 ghost use lib.ListN.{length};
@@ -131,78 +131,78 @@ fn rosetta_code() {
 
 fn rfc_3629_examples() {
     put(b"UTF-8: examples of RFC 3629, section 7\n");
-    text(b"\x41\xE2\x89\xA2\xCE\x91\x2E");
-    text(b"\xED\x95\x9C\xEA\xB5\xAD\xEC\x96\xB4");
-    text(b"\xE6\x97\xA5\xE6\x9C\xAC\xE8\xAA\x9E");
-    text(b"\xEF\xBB\xBF\xF0\xA3\x8E\xB4");
+    text(&[0x41, 0xE2, 0x89, 0xA2, 0xCE, 0x91, 0x2E]);
+    text(&[0xED, 0x95, 0x9C, 0xEA, 0xB5, 0xAD, 0xEC, 0x96, 0xB4]);
+    text(&[0xE6, 0x97, 0xA5, 0xE6, 0x9C, 0xAC, 0xE8, 0xAA, 0x9E]);
+    text(&[0xEF, 0xBB, 0xBF, 0xF0, 0xA3, 0x8E, 0xB4]);
 }
 
 fn rfc_3629_attacks() {
     put(b"UTF-8: attacks of RFC 3629, sections 3 and 10\n");
-    text(b"\xC0\x80");
-    text(b"\xED\xA1\x8C\xED\xBE\xB4");
-    text(b"\x2F\xC0\xAE\x2E\x2F");
+    text(&[0xC0, 0x80]);
+    text(&[0xED, 0xA1, 0x8C, 0xED, 0xBE, 0xB4]);
+    text(&[0x2F, 0xC0, 0xAE, 0x2E, 0x2F]);
 }
 
 // The grammar has no row for these; of the last three the end is missing.
 fn rfc_3629_grammar() {
     put(b"UTF-8: outside the grammar of RFC 3629, section 4\n");
-    text(b"\xF5\x80\x80\x80");
-    text(b"\xC2");
-    text(b"\xE2\x89");
-    text(b"\xF0\x9F\x98");
+    text(&[0xF5, 0x80, 0x80, 0x80]);
+    text(&[0xC2]);
+    text(&[0xE2, 0x89]);
+    text(&[0xF0, 0x9F, 0x98]);
 }
 
 // The first and last characters of one, two, three and four octets, the neighbours of the surrogates, and what lies past U+10FFFF.
 fn kuhn_boundaries() {
     put(b"UTF-8: Kuhn's decoder stress test, section 2, boundaries\n");
-    text(b"\x00");
-    text(b"\x7F");
-    text(b"\xC2\x80");
-    text(b"\xDF\xBF");
-    text(b"\xE0\xA0\x80");
-    text(b"\xED\x9F\xBF");
-    text(b"\xEE\x80\x80");
-    text(b"\xEF\xBF\xBD");
-    text(b"\xEF\xBF\xBF");
-    text(b"\xF0\x90\x80\x80");
-    text(b"\xF4\x8F\xBF\xBF");
-    text(b"\xF4\x90\x80\x80");
-    text(b"\xF8\x88\x80\x80\x80");
+    text(&[0x00]);
+    text(&[0x7F]);
+    text(&[0xC2, 0x80]);
+    text(&[0xDF, 0xBF]);
+    text(&[0xE0, 0xA0, 0x80]);
+    text(&[0xED, 0x9F, 0xBF]);
+    text(&[0xEE, 0x80, 0x80]);
+    text(&[0xEF, 0xBF, 0xBD]);
+    text(&[0xEF, 0xBF, 0xBF]);
+    text(&[0xF0, 0x90, 0x80, 0x80]);
+    text(&[0xF4, 0x8F, 0xBF, 0xBF]);
+    text(&[0xF4, 0x90, 0x80, 0x80]);
+    text(&[0xF8, 0x88, 0x80, 0x80, 0x80]);
 }
 
 fn kuhn_malformed() {
     put(b"UTF-8: Kuhn's decoder stress test, section 3, malformed sequences\n");
-    text(b"\x80");
-    text(b"\xBF");
-    text(b"\xFE");
-    text(b"\xFF");
+    text(&[0x80]);
+    text(&[0xBF]);
+    text(&[0xFE]);
+    text(&[0xFF]);
 }
 
 fn kuhn_overlong() {
     put(b"UTF-8: Kuhn's decoder stress test, section 4, overlong sequences\n");
-    text(b"\xC0\xAF");
-    text(b"\xE0\x80\xAF");
-    text(b"\xF0\x80\x80\xAF");
-    text(b"\xC1\xBF");
-    text(b"\xE0\x9F\xBF");
-    text(b"\xF0\x8F\xBF\xBF");
+    text(&[0xC0, 0xAF]);
+    text(&[0xE0, 0x80, 0xAF]);
+    text(&[0xF0, 0x80, 0x80, 0xAF]);
+    text(&[0xC1, 0xBF]);
+    text(&[0xE0, 0x9F, 0xBF]);
+    text(&[0xF0, 0x8F, 0xBF, 0xBF]);
 }
 
 fn kuhn_surrogates() {
     put(b"UTF-8: Kuhn's decoder stress test, section 5, surrogates\n");
-    text(b"\xED\xA0\x80");
-    text(b"\xED\xBF\xBF");
-    text(b"\xED\xA0\x80\xED\xB0\x80");
+    text(&[0xED, 0xA0, 0x80]);
+    text(&[0xED, 0xBF, 0xBF]);
+    text(&[0xED, 0xA0, 0x80, 0xED, 0xB0, 0x80]);
 }
 
 fn dwarf_5() {
     put(b"LEB128: DWARF 5, table 7.7\n");
-    read(b"\x02");
-    read(b"\x7F");
-    read(b"\x80\x01");
-    read(b"\x81\x01");
-    read(b"\xB9\x64");
+    read(&[0x02]);
+    read(&[0x7F]);
+    read(&[0x80, 0x01]);
+    read(&[0x81, 0x01]);
+    read(&[0xB9, 0x64]);
     write(2);
     write(127);
     write(128);
@@ -212,17 +212,17 @@ fn dwarf_5() {
 
 fn wikipedia() {
     put(b"LEB128: Wikipedia\n");
-    read(b"\xE5\x8E\x26");
+    read(&[0xE5, 0x8E, 0x26]);
     write(624485);
 }
 
 fn document_01() {
     put(b"LEB128: stored numbers of document 01\n");
-    read(b"\xFF\xFF\xFF\xFF\x0F");
-    read(b"\xFF\xFF\xFF\xFF\x10");
-    read(b"\x80\x00");
-    read(b"\x80");
-    read(b"\x80\x80\x80\x80\x80\x00");
+    read(&[0xFF, 0xFF, 0xFF, 0xFF, 0x0F]);
+    read(&[0xFF, 0xFF, 0xFF, 0xFF, 0x10]);
+    read(&[0x80, 0x00]);
+    read(&[0x80]);
+    read(&[0x80, 0x80, 0x80, 0x80, 0x80, 0x00]);
     write(4294967295);
 }
 

@@ -12,23 +12,23 @@ use Rattle.checking.specs.Checks.{check-lists}
 use Rattle.segment.proofs.Binds.{bind-gives, ok-same}
 use Rattle.segment.proofs.Accepted.{check-gives}
 use Rattle.checking.proofs.Passing.{checks-exactly}
-use Rattle.writer.specs.Bytes.{segment-bytes}
+use Rattle.storing.specs.Bytes.{segment-bytes}
 use Rattle.writer.specs.Writing.{write}
-use Rattle.writer.specs.Acceptance.{No-refusal, Accepts-exactly}
+use Rattle.writer.specs.Acceptance.{Writable, Accepts-exactly}
 
 module _ (l : Lists) (room : ℕ) where
-  gives : (bytes : List ℕ) → write l room ≡ ok bytes → No-refusal l room × (segment-bytes (given l) ≡ bytes)
+  gives : (bytes : List ℕ) → write l room ≡ ok bytes → Writable l room × (segment-bytes (given l) ≡ bytes)
   unfolding write
   gives bytes e =
       let r = bind-gives (check-lists l) _ e in
       let enough = check-gives (leb (length (segment-bytes (given l))) room) _ _ (r .2) in
       (record { lists = checks-exactly l .0 (r .1); room-enough = leb-true _ _ (enough .0) }, ok-same (enough .1))
 
-  from : No-refusal l room → write l room ≡ ok (segment-bytes (given l))
+  from : Writable l room → write l room ≡ ok (segment-bytes (given l))
   unfolding write
   from n = rw (checks-exactly l .1 (n .lists), le-leb _ _ (n .room-enough))
 
-  pub accepted-gives : {bytes : List ℕ} → write l room ≡ ok bytes → No-refusal l room
+  pub accepted-gives : {bytes : List ℕ} → write l room ≡ ok bytes → Writable l room
   accepted-gives e = gives _ e .0
 
   pub accepted-is : {bytes : List ℕ} → write l room ≡ ok bytes → segment-bytes (given l) ≡ bytes

@@ -9,13 +9,15 @@ use lib.ListN.{length, length-append}
 use lib.Seq.{sets, length-sets}
 use Rattle.codec.proofs.Sets.{sets-append}
 use Rattle.segment.specs.Records.{between}
-use Rattle.checking.specs.declared.walk.Walk.{Walk}
+use Rattle.flat.specs.declared.walk.Walk.{Walk}
 use Rattle.checking.specs.Given.{Lists, given}
-use Rattle.writer.specs.Bytes.{postings-bytes, entry-bytes, directory-bytes, lists-bytes}
-use Rattle.checking.specs.Flat.{terms-from, start-walk}
-use Rattle.writer.specs.Stores.{Stored, entry-of-list, Entry-room, Terms-room, Terms-stored}
+use Rattle.storing.specs.Bytes.{postings-bytes, entry-bytes, directory-bytes, lists-bytes}
+use Rattle.flat.specs.Flat.{terms-from, start-walk}
+use Rattle.storing.specs.Stores.{Stored}
+use Rattle.framing.specs.Frames.{entry-of-list, Entry-room}
+use Rattle.writer.specs.Stores.{Terms-room, Terms-stored}
 use Rattle.checking.proofs.Passing.{small-gives}
-use Rattle.checking.proofs.Walking.{end-of, count-of, name-at, postings-at, next-in, Walk-fits, terms-start, walk-starts, walk-inside, name-length, postings-count, walk-next, terms-step, terms-end}
+use Rattle.flat.proofs.Walking.{end-of, count-of, name-at, postings-at, next-in, Walk-fits, terms-start, walk-starts, walk-inside, name-length, postings-count, walk-next, terms-step, terms-end}
 use Rattle.writer.proofs.Sets.{sets-comm, between-stored}
 use Rattle.writer.proofs.Left.{lists-next}
 

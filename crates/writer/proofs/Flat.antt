@@ -1,22 +1,21 @@
--- What the eight lists stand for, laid flat again, is the eight lists; and its position counts add up.
+-- What the eight lists stand for, laid flat again, is the eight lists.
 -- Assumes nothing.
 use mathlib.Core.Path.{_≡_, refl, sym, ap, _∙_}
 use mathlib.Core.Bool.{true}
-use mathlib.Core.List.{List, [], _∷_, _++_, map}
+use mathlib.Core.List.{List, map}
 use Prim.Native.Nat.{ℕ, _+_}
 use native.Mathlib.Nat.{zero-add}
 use native.Mathlib.Omega.{arith}
-use lib.ListN.{length, length-append, length-map}
-use Rattle.segment.specs.Records.{Posting, Term}
+use lib.ListN.{length, length-map}
+use Rattle.segment.specs.Records.{Posting}
 use Rattle.segment.specs.Metadata.{document}
-use Rattle.segment.specs.Postings.{total-positions}
 use Rattle.segment.specs.Texts.{ends-fit, names}
 use Rattle.checking.specs.Given.{Lists, given, laid-flat, parts, joined, total, posting, term, all-postings, ends-from}
-use Rattle.writer.specs.Bytes.{name-bytes}
+use Rattle.storing.specs.Bytes.{name-bytes}
 use Rattle.checking.specs.Acceptance.{Shape}
-use Rattle.writer.specs.Back.{all-position-counts}
 use Rattle.segment.proofs.Shapes.{shape-is, names-count}
-use Rattle.checking.proofs.Parts.{lefts, rights, paired-right, parts-count, parts-joined, parts-lengths, names-joined, names-ends}
+use Rattle.lookup.proofs.Pairs.{lefts, rights, paired-right}
+use Rattle.checking.proofs.Parts.{parts-count, parts-joined, parts-lengths, names-joined, names-ends}
 
 module _ (l : Lists) (s : Shape l) where
   abbrev cut : List (List ℕ)
@@ -87,21 +86,3 @@ module _ (l : Lists) (s : Shape l) where
   pub text-is : name-bytes (given l .terms) ≡ l .text
   unfolding laid-flat name-bytes
   text-is = ap (λ (k : Lists). k .text) flat-again
-
--- ---- the counts
-
-abbrev all-positions : List Posting → List ℕ
-all-positions ps = joined (map (λ p. p .positions) ps)
-
-total-is : (ps qs : List Posting) → total-positions ps + length (all-positions qs) ≡ length (all-positions (ps ++ qs))
-unfolding total-positions
-total-is [] qs = zero-add (length (all-positions qs))
-total-is (p ∷ ps) qs = simp length-append (omega (arith, total-is ps qs))
-
-counts-are : (ts : List Term) → all-position-counts ts ≡ length (all-positions (joined (map (λ t. t .postings) ts)))
-counts-are [] = refl
-counts-are (t ∷ ts) = ap (λ (n : ℕ). total-positions (t .postings) + n) (counts-are ts) ∙ total-is (t .postings) _
-
-pub counts-add-up : (l : Lists) → Shape l → all-position-counts (given l .terms) ≡ length (l .positions)
-unfolding laid-flat
-counts-add-up l s = counts-are (given l .terms) ∙ ap (λ (k : Lists). length (k .positions)) (flat-again l s)

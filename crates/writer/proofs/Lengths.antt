@@ -1,24 +1,32 @@
--- How long the bytes of a section are at most.
+-- How long the bytes of a section are, or are at most.
 -- Assumes nothing.
-use mathlib.Core.Path.{ap}
-use mathlib.Core.List.{List, [], _∷_, map}
+use mathlib.Core.Path.{_≡_, refl, ap}
+use mathlib.Core.List.{List, [], _∷_, _++_, map}
 use mathlib.Core.Option.{Option, none, some}
 use Prim.Native.Nat.{ℕ, _+_, _*_, _≤_}
+use native.Mathlib.Nat.{zero-add}
 use native.Mathlib.Omega.{arith}
 use lib.ListN.{length, take, drop, length-append, length-map, length-take, length-drop, take-append-drop}
 use Rattle.codec.proofs.Shortest.{encoded-size}
 use Rattle.segment.specs.Records.{Document, Posting, Term, between}
 use Rattle.segment.specs.Metadata.{document}
 use Rattle.segment.specs.Postings.{total-positions}
-use Rattle.checking.specs.Given.{Lists, given, laid-flat, paired, joined}
-use Rattle.writer.specs.Bytes.{gap, metadata-bytes, position-bytes, posting-bytes, postings-bytes, lists-bytes}
-use Rattle.checking.specs.Flat.{postings-in}
+use Rattle.checking.specs.Given.{Lists, given, laid-flat, joined}
+use Rattle.lookup.specs.Lookup.{paired}
+use Rattle.storing.specs.Bytes.{gap, metadata-bytes, position-bytes, posting-bytes, postings-bytes, list-bytes, directory-bytes, lists-bytes}
+use Rattle.flat.specs.Flat.{postings-in}
 use Rattle.checking.specs.Acceptance.{Small, Shape}
-use Rattle.writer.specs.Back.{all-position-counts}
-use Rattle.writer.proofs.Flat.{flat-again, counts-add-up}
+use Rattle.writer.proofs.Flat.{flat-again}
 
 pub part-size : (from to : ℕ) (l : List ℕ) → length (between from to l) ≤ length l
 part-size from to l = simp (length-take, length-drop) (omega arith)
+
+-- 32 bytes for each term
+pub directory-length : (ts : List Term) (name-at list-at : ℕ) → length (directory-bytes name-at list-at ts) ≡ 32 * length ts
+unfolding directory-bytes
+directory-length [] name-at list-at = refl
+directory-length (t ∷ ts) name-at list-at =
+    omega (arith, directory-length ts (name-at + length (t .name)) (list-at + length (list-bytes t)))
 
 -- 5 bytes for each number
 pub metadata-size : (previous : Option ℕ) (ds : List Document) → length (metadata-bytes previous ds) ≤ 10 * length ds
@@ -46,23 +54,34 @@ postings-size previous (p ∷ ps) =
       postings-size (some (p .doc)) ps,
     ))
 
-lists-size : (ts : List Term)
-    → length (lists-bytes ts) ≤ 10 * length (joined (map (λ t. t .postings) ts)) + 5 * all-position-counts ts
+-- all positions of postings, as they are counted
+abbrev pub all-positions : List Posting → List ℕ
+all-positions ps = joined (map (λ p. p .positions) ps)
+
+pub total-is : (ps qs : List Posting) → total-positions ps + length (all-positions qs) ≡ length (all-positions (ps ++ qs))
+unfolding total-positions
+total-is [] qs = zero-add (length (all-positions qs))
+total-is (p ∷ ps) qs = simp length-append (omega (arith, total-is ps qs))
+
+abbrev postings-of : List Term → List Posting
+postings-of ts = joined (map (λ t. t .postings) ts)
+
+lists-size : (ts : List Term) → length (lists-bytes ts) ≤ 10 * length (postings-of ts) + 5 * length (all-positions (postings-of ts))
 unfolding lists-bytes
 lists-size [] = omega arith
-lists-size (t ∷ ts) = simp length-append (omega (arith, postings-size none (t .postings), lists-size ts))
+lists-size (t ∷ ts) =
+    simp length-append (omega (arith, postings-size none (t .postings), lists-size ts, total-is (t .postings) (postings-of ts)))
 
 -- all lists of what was handed in
 pub lists-small : (l : Lists) → Small l → Shape l → length (lists-bytes (given l .terms)) ≤ 251658240
 unfolding laid-flat
 lists-small l small shape =
-    let postings = joined (map (λ t. t .postings) (given l .terms)) in
     omega (
       arith,
       lists-size (given l .terms),
-      length-map postings (λ p. p .doc),
+      length-map (postings-of (given l .terms)) (λ p. p .doc),
       ap (λ (k : Lists). length (k .posting-ids)) (flat-again l shape),
-      counts-add-up l shape,
+      ap (λ (k : Lists). length (k .positions)) (flat-again l shape),
     )
 
 -- ---- the same over flat lists

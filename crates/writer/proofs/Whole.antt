@@ -11,23 +11,26 @@ use lib.Seq.{sets, length-sets}
 use Rattle.codec.proofs.Sets.{sets-append, sets-front}
 use Rattle.segment.specs.Records.{Document, Term, between}
 use Rattle.segment.specs.declared.refusal.Refusal.{Refusal}
-use Rattle.segment.specs.declared.metadata.Checked.the-variants as check
+use Rattle.segment.specs.declared.checked.Checked.the-variants as check
 use Rattle.segment.specs.Refusals.{no-room}
 use Rattle.segment.specs.Results.{ok}
-use Rattle.segment.specs.Walks.{checked}
+use Rattle.segment.specs.Answers.{checked}
 use Rattle.writer.specs.declared.write.Written.the-variants as written
 use Rattle.writer.specs.Writing.{write}
 use Rattle.checking.specs.Checks.{check-lists}
-use Rattle.writer.specs.declared.write.Places.{Places}
+use Rattle.framing.specs.declared.frame.Places.{Places}
 use Rattle.checking.specs.Given.{Lists, given}
-use Rattle.writer.specs.Bytes.{directory-bytes, name-bytes, metadata-bytes, lists-bytes, header-bytes, with-header, segment-bytes}
+use Rattle.storing.specs.Bytes.{directory-bytes, name-bytes, metadata-bytes, lists-bytes, header-bytes, with-header, segment-bytes}
 use Rattle.checking.specs.Acceptance.{Shape}
-use Rattle.writer.specs.Stores.{Stored, Terms-stored, Header-stored, Segment-room, Segment-stored, Wrote}
+use Rattle.storing.specs.Stores.{Stored}
+use Rattle.writer.specs.Stores.{Terms-stored, Segment-room, Segment-stored}
+use Rattle.framing.specs.Frames.{Header-stored}
+use Rattle.writer.specs.Promise.{Wrote}
 use Rattle.segment.proofs.Accepted.{passed-ok, refused-is}
 use Rattle.checking.proofs.Passing.{shaped-gives}
 use Rattle.writer.proofs.Flat.{text-is, documents-count, terms-count}
-use Rattle.writer.proofs.DirectoryBack.{directory-length}
-use Rattle.writer.proofs.Storing.{stored-append}
+use Rattle.writer.proofs.Lengths.{directory-length}
+use Rattle.storing.proofs.Storing.{stored-append}
 use Rattle.writer.proofs.Sets.{sets-comm, between-stored, between-before, between-after}
 
 four-lengths : (a b c d : List ℕ) → length (a ++ (b ++ (c ++ d))) ≡ length a + (length b + (length c + length d))

@@ -8,14 +8,14 @@ use lib.ListN.{length}
 use Rattle.segment.specs.Results.{ok}
 use Rattle.checking.specs.Given.{Lists, given}
 use Rattle.checking.specs.Acceptance.{Lists-fine}
-use Rattle.writer.specs.Bytes.{segment-bytes}
+use Rattle.storing.specs.Bytes.{segment-bytes}
 use Rattle.writer.specs.Writing.{write}
 
--- document 01 names no refusal
-pub record No-refusal (l : Lists) (room : ℕ) : Type 0 where
+-- document 01 names no refusal: for the lists, or for the room that their bytes take
+pub record Writable (l : Lists) (room : ℕ) : Type 0 where
   pub lists : Lists-fine l
   pub room-enough : length (segment-bytes (given l)) ≤ room
 
 -- the claim: accepted exactly then
 abbrev pub Accepts-exactly : Type 0
-Accepts-exactly = (l : Lists) (room : ℕ) → ((bytes : List ℕ) × (write l room ≡ ok bytes)) ↔ No-refusal l room
+Accepts-exactly = (l : Lists) (room : ℕ) → ((bytes : List ℕ) × (write l room ≡ ok bytes)) ↔ Writable l room

@@ -1,25 +1,17 @@
 // How many bytes the metadata and the posting lists take: the size pass.
-use checking::walk::Walk;
 use codec::varint::encoded_len;
+use flat::walk::Walk;
 use segment::fixed::long;
+use storing::put::gap_from;
 ghost use mathlib.Core.Path.{_≡_};
 ghost use mathlib.Core.Option.{none};
-ghost use Prim.Native.Nat.{_-_, _≤_};
+ghost use Prim.Native.Nat.{_≤_};
 ghost use lib.ListN.{length};
 ghost use Rattle.segment.specs.Metadata.{document};
-ghost use Rattle.checking.specs.Given.{paired, total};
-ghost use Rattle.writer.specs.Bytes.{metadata-bytes, position-bytes, postings-bytes, lists-bytes};
-ghost use Rattle.checking.specs.Flat.{lists, postings-in, terms-from, start-walk, Checkable};
-
-// The gap from the value before; what was checked rises, so nothing is cut off.
-pub fn gap_from(previous: u32, value: u32) -> u32
-    ensures { λ r. ⌜ r ≡ value - previous ⌝ }
-{
-    if value < previous {
-        return 0;
-    }
-    value - previous
-}
+ghost use Rattle.lookup.specs.Lookup.{paired};
+ghost use Rattle.checking.specs.Given.{total, lists};
+ghost use Rattle.storing.specs.Bytes.{metadata-bytes, position-bytes, postings-bytes, lists-bytes};
+ghost use Rattle.flat.specs.Flat.{postings-in, terms-from, start-walk, Checkable};
 
 // The metadata's length. The gap of the first id is taken from 0.
 pub fn metadata_len(ids: &[u32], lengths: &[u32]) -> usize

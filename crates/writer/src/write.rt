@@ -1,61 +1,26 @@
 // The writer: everything is checked and measured before the first byte is stored.
-use crate::put::put_bytes;
-use crate::put::put_four_u32;
-use crate::put::put_four_u64;
-use crate::put::put_metadata;
-use crate::put::put_postings;
-use crate::put::put_u32;
-use crate::put::put_u64;
 use crate::sizes::lists_len;
 use crate::sizes::metadata_len;
-use checking::check::check_lists;
-use checking::walk::Walk;
-use codec::crc32::crc32;
+use flat::lists::check_lists;
+use flat::walk::Walk;
+use framing::frame::Places;
+use framing::frame::put_entry;
+use framing::frame::put_header;
+use framing::numbers::put_bytes;
+use segment::checked::Checked;
 use segment::fixed::long;
-use segment::metadata::Checked;
 use segment::refusal::NO_ROOM;
 use segment::refusal::Refusal;
-ghost use mathlib.Core.Path.{_≡_};
-ghost use Prim.Native.Nat.{_+_, _≤_};
-ghost use lib.ListN.{length};
-ghost use Rattle.checking.specs.Flat.{lists};
-ghost use Rattle.writer.specs.Stores.{Stored, Wrote, entry-of-list, Entry-room, Terms-room, Terms-stored, Header-room, Header-stored, Segment-room, Segment-stored};
+use storing::put::put_metadata;
+use storing::put::put_postings;
+ghost use Rattle.checking.specs.Given.{lists};
+ghost use Rattle.writer.specs.Stores.{Terms-room, Terms-stored, Segment-room, Segment-stored};
+ghost use Rattle.writer.specs.Promise.{Wrote};
 
 // The length of the segment, or the refusal.
 pub enum Written {
     Length(usize),
     Refused(Refusal),
-}
-
-// Where the sections start, and where the segment ends. The directory starts at 72.
-pub struct Places {
-    pub names: usize,
-    pub metadata: usize,
-    pub lists: usize,
-    pub end: usize,
-}
-
-// A directory entry for a list that stands from `list` to `end` in the slice.
-fn put_entry(
-    out: &mut [u8],
-    at: usize,
-    name: usize,
-    name_len: usize,
-    lists: usize,
-    list: usize,
-    end: usize,
-    df: u32,
-) -> usize
-    requires { ⌜ Entry-room (now out) at name «name_len» lists list end ⌝ }
-    ensures { λ r. ⌜ Stored (entry-of-list (now (out .entry)) name «name_len» lists list end df) at (now (out .entry)) r (now (out .exit)) ⌝ }
-{
-    let checksum = crc32(&out[list..end]);
-    let next = put_u32(out, at, name as u32);
-    let next = put_u32(out, next, name_len as u32);
-    let next = put_u64(out, next, list - lists);
-    let next = put_u64(out, next, end - list);
-    let next = put_u32(out, next, df);
-    put_u32(out, next, checksum)
 }
 
 // Every term's posting list and directory entry.
@@ -96,39 +61,6 @@ fn put_terms(
         list = end;
         walk = walk.next(ends, posting_counts, position_counts);
     }
-}
-
-// The header, over sections that stand in the slice.
-fn put_header(out: &mut [u8], documents: u32, terms: u32, at: Places)
-    requires { ⌜ Header-room (now out) at ⌝ }
-    ensures { λ r. ⌜ Header-stored documents terms at (now (out .entry)) (now (out .exit)) ⌝ }
-{
-    let names = at.names;
-    let metadata = at.metadata;
-    let lists = at.lists;
-    let end = at.end;
-    let directory_crc = crc32(&out[72..names]);
-    let names_crc = crc32(&out[names..metadata]);
-    let metadata_crc = crc32(&out[metadata..lists]);
-    let lists_crc = crc32(&out[lists..end]);
-    let counts = put_bytes(out, 0, b"PSTP0001");
-    let lengths = put_four_u32(out, counts, 2, 0, documents, terms);
-    let checksums = put_four_u64(
-        out,
-        lengths,
-        names - 72,
-        metadata - names,
-        lists - metadata,
-        end - lists,
-    );
-    put_four_u32(
-        out,
-        checksums,
-        directory_crc,
-        names_crc,
-        metadata_crc,
-        lists_crc,
-    );
 }
 
 // The whole segment at the front of the slice.

@@ -6,8 +6,8 @@ use mathlib.Core.Option.{none, some}
 use Prim.Native.Nat.{_-_, _≤_}
 use lib.ListN.{length, drop, getD}
 use Rattle.segment.specs.Metadata.{document}
-use Rattle.segment.specs.Walks.{checked}
-use Rattle.checking.specs.Given.{paired}
+use Rattle.segment.specs.Answers.{checked}
+use Rattle.lookup.specs.Lookup.{paired}
 use Rattle.checking.specs.Checks.{check-documents}
 use Rattle.checking.proofs.Checking.{documents-start, documents-next, documents-stop, documents-end}
 use borrow.Author.Needs.{needs}

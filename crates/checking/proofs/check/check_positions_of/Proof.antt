@@ -6,7 +6,7 @@ use mathlib.Core.Option.{none}
 use Prim.Native.Nat.{_-_, _≤_}
 use lib.Dec.{eqb}
 use lib.ListN.{length, drop}
-use Rattle.segment.specs.Walks.{checked, earlier}
+use Rattle.segment.specs.Answers.{checked, earlier}
 use Rattle.checking.specs.Checks.{check-positions}
 use Rattle.checking.proofs.Checking.{later, positions-next, positions-stop, positions-end}
 use borrow.Author.Needs.{needs}

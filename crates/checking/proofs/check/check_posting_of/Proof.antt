@@ -4,7 +4,7 @@ use mathlib.Core.Path.{_≡_, _∙_}
 use mathlib.Core.Bool.{true}
 use mathlib.Core.Logic.{⊎-elim}
 use Rattle.segment.specs.Records.{rises}
-use Rattle.segment.specs.Walks.{earlier}
+use Rattle.segment.specs.Answers.{earlier}
 use Rattle.checking.proofs.Checking.{falls, stays, goes-up, comes-first, posting-unknown, posting-falls, posting-stays, posting-empty, posting-fine}
 use borrow.Author.Needs.{needs}
 use Rattle.checking.proofs.check.check_posting_of.Statement.{statement}

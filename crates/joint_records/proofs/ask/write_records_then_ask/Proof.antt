@@ -43,6 +43,9 @@ use denote.Exit.{yes}
 use Rattle.joint.specs.declared.ask.Asked.{Asked}
 use Rattle.joint.proofs.ask.Asked as S
 use Rattle.joint.proofs.ask.Asked.Laws as S′
+use Rattle.joint.specs.declared.ask.Question.{Question}
+use Rattle.joint.proofs.ask.Question as Q
+use Rattle.joint.proofs.ask.Question.Laws as Q′
 use Rattle.records.specs.declared.exchange.DocumentLength.{DocumentLength}
 use Rattle.records.specs.Exchanged.{Three, exchanged}
 use Rattle.records.proofs.Lending.{at-list, Holds, shares-on, share-back}
@@ -52,11 +55,8 @@ use Rattle.records.proofs.exchange.DocumentLength as T
 use Rattle.records.proofs.exchange.exchange.Symbol as exchange-def
 use Rattle.records.proofs.exchange.exchange.Symbol.{name as #exchange}
 use Rattle.records.proofs.exchange.exchange.Met as exchange-thm
-use Rattle.joint_records.specs.declared.ask.Question.{Question}
-use Rattle.joint_records.specs.Asking.{rule-of, names-of, Proper, Asked-apart}
+use Rattle.joint_records.specs.Apart.{Asked-apart}
 use Rattle.joint_records.proofs.Demands.{asked-records}
-use Rattle.joint_records.proofs.ask.Question as Q
-use Rattle.joint_records.proofs.ask.Question.Laws as Q′
 use Rattle.joint_records.proofs.ask.ask_apart as inner
 use Rattle.joint_records.proofs.ask.ask_apart.Symbol as inner-def
 use Rattle.joint_records.proofs.ask.ask_apart.Symbol.{name as #inner}
@@ -160,7 +160,7 @@ module _ {M : Type 1} (𝓤 : URA M) (H : Heap 𝓤) (A : Atoms 𝓤) (W : Given
   abbrev Told : Asked → Left → Type 0
   Told r ws =
       Asked-apart (length (x₁ .now)) (standing (x₁ .now) (x₂ .now) (x₃ .now) (x₄ .now) (x₅ .now) (x₆ .now) (x₇ .now) (x₈ .now) (x₉ .now)) (x₁₀ .now)
-      (rule-of x₁₁) (names-of x₁₁ (x₁₂ .now) (x₁₃ .now) (x₁₄ .now)) (Proper x₁₁ (x₁₂ .now) (x₁₃ .now) (x₁₄ .now)) (x₁₅ .now) r (ws .1 .1 .1 .1 .1 .1 .1 .1 .1 .0) (ws .1 .1 .1 .1 .1 .1 .1 .1 .1 .1 .1 .1 .1 .1 .0)
+      x₁₁ (x₁₂ .now) (x₁₃ .now) (x₁₄ .now) (x₁₅ .now) r (ws .1 .1 .1 .1 .1 .1 .1 .1 .1 .0) (ws .1 .1 .1 .1 .1 .1 .1 .1 .1 .1 .1 .1 .1 .1 .0)
 
   exits : (r : Asked) (v : Val) (ws : Left) (e₁₀ : length (ws .1 .1 .1 .1 .1 .1 .1 .1 .1 .0) ≡ length (x₁₀ .now)) (e₁₅ : length (ws .1 .1 .1 .1 .1 .1 .1 .1 .1 .1 .1 .1 .1 .1 .0) ≡ length (x₁₅ .now)) → Told r ws
       → ent 𝓤 (⋆ 𝓤 H A (‵ (Holds T.the-row (κs .0) (x₁ .ptr .0) (x₁ .ptr .1) (x₁ .name) (length (x₁ .now)) (x₁ .now)) ∷ ‵ (Holds u32 (κs .1 .0) (x₂ .ptr .0) (x₂ .ptr .1) (x₂ .name) (length (x₂ .now)) (x₂ .now)) ∷ ‵ (Holds u32 (κs .1 .1 .0) (x₃ .ptr .0) (x₃ .ptr .1) (x₃ .name) (length (x₃ .now)) (x₃ .now))

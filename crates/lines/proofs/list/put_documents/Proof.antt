@@ -6,8 +6,8 @@ use lib.ListN.{length}
 use lib.Seq.{sets}
 use denote.Ref.{now}
 use borrow.Author.Needs.{needs}
-use Rattle.segment.specs.Held.{rest-of, held-documents, documents-from}
-use Rattle.segment.proofs.Documents-held.{held-rise}
+use Rattle.decoding.specs.Held.{rest-of, held-documents, documents-from}
+use Rattle.decoding.proofs.Documents-held.{held-rise}
 use Rattle.lines.specs.Listing.{document-lines}
 use Rattle.lines.proofs.Sets.{stored-length, stored-on}
 use Rattle.lines.proofs.Texts.{one-more, no-more, document-lines-next, document-lines-end, document-lines-length}

@@ -84,7 +84,7 @@ loop-again c =
     let l = turn q .loop in
     let h : l .i < length (l .cs) = omega arith in (
       omega arith,
-      simp length-set (omega arith),
+      simp length-set (l .inv .1),
       firsts b .1,
       omega (arith, firsts b),
       walk-ok (l .inv .4) (q .seek .ensures) (omega arith) h (omega arith) (b .before .wide .ensures) (b .begin .ensures) (omega arith),
@@ -106,7 +106,7 @@ loop-again-2 c =
     let l = turn q .loop in
     let h : l .i < length (l .cs) = omega arith in (
       omega arith,
-      simp length-set (omega arith),
+      simp length-set (l .inv .1),
       omega (arith, firsts b),
       omega (arith, firsts b),
       walk-over (l .inv .4) (q .seek .ensures) (omega arith) h (omega arith) (omega arith),

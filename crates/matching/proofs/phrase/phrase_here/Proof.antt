@@ -69,8 +69,8 @@ loop-again c =
     let so = q .seek .ensures in
     let h : l .i < length (l .cs) = omega arith in (
       omega arith,
-      simp length-set (omega arith),
-      omega arith,
+      simp length-set (l .inv .1),
+      l .inv .2,
       leap-ok (l .inv .3) (moved _ (l .cs) (l .start) (l .i) so h) (met _ (l .cs) (l .start) (l .i) so h (omega arith) (omega arith)),
     )
 
@@ -87,7 +87,7 @@ loop-again-2 c =
     let so = q .seek .ensures in
     let h : l .i < length (l .cs) = omega arith in (
       omega arith,
-      simp length-set (omega arith),
+      simp length-set (l .inv .1),
       omega arith,
       leap-over (l .inv .3) (moved _ (l .cs) (l .start) (l .i) so h) (omega arith) (omega (arith, higher c))
           (λ s k m. omega (arith, over _ (l .cs) (l .start) (l .i) so h s k m)),

@@ -141,10 +141,10 @@ loop-again c =
     let f = facts p in
     let h : l .i < length (l .lefts) = omega arith in (
       omega arith,
-      simp length-set (omega arith),
-      simp length-set (omega arith),
-      simp length-set (omega arith),
-      omega arith,
+      simp length-set (l .inv .1),
+      simp length-set (l .inv .2),
+      simp length-set (l .inv .3),
+      l .inv .4,
       leap-ok (l .inv .5) (same p) (shown (bytes p) (window p) (named p) (l .lefts) (l .i) (l .start) (p .pass2 .result .to) h (omega (arith, f .count))),
       views-set (l .inv .6) h (omega arith) (omega arith) (f .view),
     )
@@ -181,9 +181,9 @@ loop-again-2 c =
     let h : l .i < length (l .lefts) = omega arith in
     let up = far c in (
       omega arith,
-      simp length-set (omega arith),
-      simp length-set (omega arith),
-      simp length-set (omega arith),
+      simp length-set (l .inv .1),
+      simp length-set (l .inv .2),
+      simp length-set (l .inv .3),
       omega arith,
       leap-over (l .inv .5) (same p) (omega arith) (omega arith)
           (λ s k m. omega (

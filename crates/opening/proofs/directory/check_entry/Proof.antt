@@ -5,7 +5,7 @@ use Prim.Native.Nat.{ℕ}
 use lib.ListN.{length}
 use denote.Ref.{now}
 use borrow.Author.Tests.{not-true, not-false}
-use Rattle.codec.specs.Utf8.{utf8}
+use Rattle.encoding.specs.Utf8.{utf8}
 use Rattle.opening.specs.declared.header.RangeEnd.the-variants as range
 use Rattle.segment.specs.Refusals.{term-bytes}
 use Rattle.segment.specs.Records.{field, between}

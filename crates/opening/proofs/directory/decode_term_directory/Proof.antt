@@ -6,7 +6,7 @@ use lib.Dec.{eqb}
 use lib.ListN.{length, drop, length-drop}
 use denote.Ref.{now}
 use Rattle.segment.specs.Directory.{read-entries, directory}
-use Rattle.segment.specs.Walks.{earlier, checked}
+use Rattle.segment.specs.Answers.{earlier, checked}
 use Rattle.opening.specs.Terms.{In-names, name-in, Walked-entry}
 use Rattle.opening.proofs.Entries.{wrong-length, right-length, entries-next, entries-stop, entries-end}
 use borrow.Author.Needs.{needs}

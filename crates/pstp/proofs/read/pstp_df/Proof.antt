@@ -7,11 +7,11 @@ use Rattle.pstp.proofs.read.pstp_df.Tie as tie
 df-requires : tie.Need-df-requires
 df-requires c κs = search needs
 
-of-frequency-requires : tie.Need-of-frequency-requires
-of-frequency-requires c κs = search needs
+of-doc-freq-requires : tie.Need-of-doc-freq-requires
+of-doc-freq-requires c κs = search needs
 
 returns : tie.Need-returns
-returns c = c .of-frequency .ensures ∙ ap frequency-reply (c .before .df .ensures)
+returns c = c .of-doc-freq .ensures ∙ ap frequency-reply (c .before .df .ensures)
 
 pub pstp-df-spec : {M : Type 1} → statement M
-pstp-df-spec = tie.close (tie.spec df-requires of-frequency-requires returns)
+pstp-df-spec = tie.close (tie.spec df-requires of-doc-freq-requires returns)

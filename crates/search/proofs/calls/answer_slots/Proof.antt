@@ -3,9 +3,9 @@ use mathlib.Core.Logic.{⊎-elim}
 use Prim.Native.Nat.{_≤_, _<_}
 use native.Mathlib.Omega.{arith}
 use denote.Ref.{now}
-use Rattle.segment.specs.declared.metadata.Checked.the-variants as check
-use Rattle.search.specs.Standing.{In-slots}
-use Rattle.search.specs.Decoded.{lists-decoded}
+use Rattle.segment.specs.declared.checked.Checked.the-variants as check
+use Rattle.naming.specs.Numbered.{In-slots}
+use Rattle.naming.specs.Decoded.{lists-decoded}
 use Rattle.search.proofs.Answered.{slots-long, lists-inside, slots-refused, slots-absent, walkable, slots-short, found-few, found-same, slots-found}
 use borrow.Author.Needs.{needs}
 use Rattle.search.proofs.calls.answer_slots.Statement.{statement}

@@ -8,13 +8,14 @@ use borrow.Author.Tests.{eq-eqb}
 use Rattle.opening.specs.declared.header.Layout.{Layout}
 use Rattle.opening.specs.declared.open_segment.Opening.the-variants as opening
 use Rattle.opening.specs.Opened.{Opens}
-use Rattle.search.specs.declared.document.Ask.{Ask}
-use Rattle.search.specs.declared.document.Ask.the-variants as ask
+use Rattle.walking.specs.declared.document.Ask.{Ask}
+use Rattle.walking.specs.declared.document.Ask.the-variants as ask
 use Rattle.search.specs.Questions.{search as question, search-two}
-use Rattle.search.specs.Standing.{rule-of}
-use Rattle.search.specs.Decoded.{Names-resolved, Askable}
-use Rattle.search.proofs.Answering.{awake-is}
-use Rattle.search.proofs.Resolving.{names-none, names-room, names-more}
+use Rattle.walking.specs.Asks.{rule-of}
+use Rattle.naming.specs.Decoded.{Names-resolved}
+use Rattle.search.specs.Replies.{Askable}
+use Rattle.rules.proofs.Idle.{awake-is}
+use Rattle.naming.proofs.Resolving.{names-none, names-room, names-more}
 use Rattle.search.proofs.Called.{refused, closed, idles, answered, two-reply, two-stops, two-goes}
 use borrow.Author.Needs.{needs}
 use Rattle.search.proofs.calls.near_match.Statement.{statement}

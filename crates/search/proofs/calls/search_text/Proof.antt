@@ -4,14 +4,15 @@ use Prim.Native.Nat.{ℕ}
 use native.Mathlib.Omega.{arith}
 use lib.ListN.{length}
 use denote.Ref.{now}
-use Rattle.segment.specs.declared.metadata.Checked.the-variants as check
+use Rattle.segment.specs.declared.checked.Checked.the-variants as check
 use Rattle.opening.specs.declared.open_segment.Opening.the-variants as opening
 use Rattle.segment.specs.Texts.{names}
-use Rattle.segment.specs.Walks.{checked}
+use Rattle.segment.specs.Answers.{checked}
 use Rattle.opening.specs.Opened.{Opens}
-use Rattle.search.specs.Questions.{search as question, check-question, search-text}
-use Rattle.search.specs.Standing.{rule-of}
-use Rattle.search.specs.Decoded.{Askable}
+use Rattle.naming.specs.Checks.{check-question}
+use Rattle.search.specs.Questions.{search as question, search-text}
+use Rattle.walking.specs.Asks.{rule-of}
+use Rattle.search.specs.Replies.{Askable}
 use Rattle.segment.proofs.Shapes.{names-count}
 use Rattle.search.proofs.Called.{refused, closed, idles, answered, text-reply, text-stops, text-goes, text-fits}
 use borrow.Author.Needs.{needs}

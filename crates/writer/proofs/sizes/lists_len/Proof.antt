@@ -8,11 +8,11 @@ use mathlib.Core.Option.{none}
 use native.Mathlib.Nat.{zero-add, le-trans}
 use Rattle.segment.specs.Records.{Posting}
 use lib.ListN.{length, length-append}
-use Rattle.checking.specs.Given.{Lists}
-use Rattle.writer.specs.Bytes.{postings-bytes, lists-bytes}
-use Rattle.checking.specs.Flat.{lists, terms-from, start-walk}
+use Rattle.checking.specs.Given.{Lists, lists}
+use Rattle.storing.specs.Bytes.{postings-bytes, lists-bytes}
+use Rattle.flat.specs.Flat.{terms-from, start-walk}
 use Rattle.checking.proofs.Passing.{small-gives, shaped-gives}
-use Rattle.checking.proofs.Walking.{Walk-fits, Walk-inside, last-of, next-in, terms-start, walk-starts, walk-inside, walk-next, walk-asks, postings-given, ids-match, positions-enough}
+use Rattle.flat.proofs.Walking.{Walk-fits, Walk-inside, last-of, next-in, terms-start, walk-starts, walk-inside, walk-next, walk-asks, postings-given, ids-match, positions-enough}
 use Rattle.writer.proofs.Lengths.{part-size, lists-small}
 use Rattle.writer.proofs.Left.{lists-next, lists-end}
 use denote.Ref.{now}

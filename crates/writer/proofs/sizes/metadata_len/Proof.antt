@@ -9,10 +9,10 @@ use denote.Ref.{now}
 use borrow.Author.Needs.{needs}
 use Rattle.codec.specs.Leb128.{encoded}
 use Rattle.segment.specs.Metadata.{document}
-use Rattle.checking.specs.Given.{paired}
-use Rattle.writer.specs.Bytes.{metadata-bytes}
+use Rattle.lookup.specs.Lookup.{paired}
+use Rattle.storing.specs.Bytes.{metadata-bytes}
 use Rattle.writer.proofs.Lengths.{flat-metadata-size}
-use Rattle.writer.proofs.Left.{metadata-left, metadata-whole, metadata-next, metadata-end}
+use Rattle.storing.proofs.Left.{metadata-left, metadata-whole, metadata-next, metadata-end}
 use Rattle.writer.proofs.sizes.metadata_len.Statement.{statement}
 use Rattle.writer.proofs.sizes.metadata_len.Tie as tie
 

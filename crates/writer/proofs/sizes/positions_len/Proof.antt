@@ -8,9 +8,9 @@ use lib.ListN.{length, getD, length-append}
 use denote.Ref.{now}
 use borrow.Author.Needs.{needs}
 use Rattle.codec.specs.Leb128.{encoded}
-use Rattle.writer.specs.Bytes.{position-bytes}
+use Rattle.storing.specs.Bytes.{position-bytes}
 use Rattle.writer.proofs.Lengths.{positions-size}
-use Rattle.writer.proofs.Left.{positions-left, positions-whole, positions-next, positions-end}
+use Rattle.storing.proofs.Left.{positions-left, positions-whole, positions-next, positions-end}
 use Rattle.writer.proofs.sizes.positions_len.Statement.{statement}
 use Rattle.writer.proofs.sizes.positions_len.Tie as tie
 

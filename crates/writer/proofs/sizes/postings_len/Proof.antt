@@ -8,11 +8,11 @@ use lib.ListN.{length, drop, getD, length-append}
 use Rattle.codec.specs.Leb128.{encoded}
 use Rattle.codec.proofs.Shortest.{encoded-size}
 use Rattle.checking.specs.Given.{total}
-use Rattle.writer.specs.Bytes.{postings-bytes}
-use Rattle.checking.specs.Flat.{postings-in}
+use Rattle.storing.specs.Bytes.{postings-bytes}
+use Rattle.flat.specs.Flat.{postings-in}
 use Rattle.writer.proofs.Lengths.{flat-postings-size}
 use Rattle.checking.proofs.Parts.{total-step}
-use Rattle.writer.proofs.Left.{postings-left, postings-whole, postings-next, postings-end}
+use Rattle.storing.proofs.Left.{postings-left, postings-whole, postings-next, postings-end}
 use denote.Ref.{now}
 use borrow.Author.Needs.{needs}
 use Rattle.writer.proofs.sizes.postings_len.Statement.{statement}

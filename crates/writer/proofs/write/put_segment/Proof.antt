@@ -1,8 +1,7 @@
 -- The sections lie apart, so each is as it was stored when the header is made over them.
 -- Assumes nothing.
 use native.Mathlib.Omega.{arith}
-use Rattle.checking.specs.Given.{Lists, given}
-use Rattle.checking.specs.Flat.{lists}
+use Rattle.checking.specs.Given.{Lists, given, lists}
 use Rattle.checking.proofs.Passing.{small-gives, shaped-gives}
 use Rattle.writer.proofs.Whole.{segment-stored}
 use denote.Ref.{now}

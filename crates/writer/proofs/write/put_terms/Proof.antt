@@ -5,11 +5,10 @@ use Prim.Native.Nat.{_+_, _-_}
 use native.Mathlib.Omega.{arith}
 use mathlib.Core.Option.{none}
 use lib.ListN.{length}
-use Rattle.checking.specs.Given.{Lists}
-use Rattle.writer.specs.Bytes.{postings-bytes}
-use Rattle.checking.specs.Flat.{lists}
-use Rattle.writer.specs.Stores.{Stored}
-use Rattle.checking.proofs.Walking.{Walk-inside, last-of, postings-at, walk-inside, walk-asks, postings-given, ids-match, positions-enough}
+use Rattle.checking.specs.Given.{Lists, lists}
+use Rattle.storing.specs.Bytes.{postings-bytes}
+use Rattle.storing.specs.Stores.{Stored}
+use Rattle.flat.proofs.Walking.{Walk-inside, last-of, postings-at, walk-inside, walk-asks, postings-given, ids-match, positions-enough}
 use Rattle.writer.proofs.Entries.{Terms-left, terms-begin, terms-length, terms-done, list-room, entry-room, terms-next}
 use denote.Ref.{now}
 use borrow.Author.Needs.{needs}

@@ -3,22 +3,22 @@
 use mathlib.Core.Path.{_≡_, refl, sym, ap, _∙_}
 use Prim.Native.Nat.{_+_, _*_, _≤_}
 use native.Mathlib.Omega.{arith}
-use Rattle.segment.specs.declared.metadata.Checked.the-variants.{Passed}
-use Rattle.segment.specs.Walks.{checked}
-use Rattle.checking.specs.Given.{Lists, given}
+use Rattle.segment.specs.declared.checked.Checked.the-variants.{Passed}
+use Rattle.segment.specs.Answers.{checked}
+use Rattle.checking.specs.Given.{Lists, given, lists}
 use Rattle.checking.specs.Checks.{check-lists}
 use Rattle.checking.specs.Acceptance.{Small, Shape}
-use Rattle.checking.specs.Flat.{lists, Checkable}
+use Rattle.flat.specs.Flat.{Checkable}
 use Rattle.checking.proofs.Passing.{small-gives, shaped-gives}
-use Rattle.checking.proofs.Walking.{terms-start}
-use Rattle.checking.proofs.Checking.{passed-checkable}
+use Rattle.flat.proofs.Walking.{terms-start}
+use Rattle.flat.proofs.Lists-checked.{passed-checkable}
 use Rattle.writer.proofs.Lengths.{flat-metadata-size, lists-small}
 use Rattle.writer.proofs.Whole.{segment-length, wrote-refusal, wrote-no-room, wrote-all}
 use mathlib.Core.List.{List}
 use mathlib.Core.Option.{none}
 use lib.ListN.{length}
 use Rattle.segment.specs.Records.{Term}
-use Rattle.writer.specs.Bytes.{metadata-bytes, lists-bytes, segment-bytes}
+use Rattle.storing.specs.Bytes.{metadata-bytes, lists-bytes, segment-bytes}
 use denote.Ref.{now}
 use borrow.Author.Needs.{needs}
 use borrow.Author.Needs.{needs}

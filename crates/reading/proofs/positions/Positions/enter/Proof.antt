@@ -1,6 +1,6 @@
 use mathlib.Core.Path.{sym, ap, _∙_}
 use denote.Ref.{now}
-use Rattle.segment.specs.Walks.{value-means}
+use Rattle.decoding.specs.Walks.{value-means}
 use Rattle.reading.proofs.Entering.{value-ok, value-refused, positions-end, positions-refused, positions-next}
 use borrow.Author.Needs.{needs}
 use Rattle.reading.proofs.positions.Positions.enter.Statement.{statement}

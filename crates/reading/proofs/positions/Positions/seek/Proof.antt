@@ -1,7 +1,7 @@
 use mathlib.Core.Path.{_≡_, refl}
 use Prim.Native.Nat.{ℕ}
 use denote.Ref.{now}
-use Rattle.segment.specs.Held.{seek-in}
+use Rattle.decoding.specs.Held.{seek-in}
 use Rattle.reading.specs.Cursors.{positions-from}
 use Rattle.reading.proofs.Seeks.{Ahead, seek-stop, seek-end, seek-next}
 use Rattle.reading.proofs.Entering.{positions-ahead}

@@ -2,7 +2,7 @@ use mathlib.Core.Path.{ap, _∙_}
 use mathlib.Core.Option.{some}
 use Prim.Native.Nat.{_-_}
 use denote.Ref.{now}
-use Rattle.segment.specs.Spots.{held-postings}
+use Rattle.decoding.specs.Spots.{held-postings}
 use Rattle.reading.proofs.Seeks.{rest-none}
 use Rattle.reading.proofs.Entering.{postings-ahead, postings-past}
 use native.Mathlib.Omega.{arith}

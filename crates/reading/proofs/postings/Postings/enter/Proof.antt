@@ -2,8 +2,9 @@ use mathlib.Core.Path.{_≡_, sym, ap, _∙_}
 use denote.Ref.{now}
 use lib.ListN.{drop}
 use Rattle.segment.specs.Results.{ok}
-use Rattle.segment.specs.Walks.{earlier, value-means}
-use Rattle.segment.specs.Spots.{value-at}
+use Rattle.segment.specs.Answers.{earlier}
+use Rattle.decoding.specs.Walks.{value-means}
+use Rattle.decoding.specs.Spots.{value-at}
 use Rattle.reading.proofs.Entering.{read-to, value-ok, value-refused, postings-end, postings-refused, postings-half, postings-next}
 use borrow.Author.Needs.{needs}
 use Rattle.reading.proofs.postings.Postings.enter.Statement.{statement}

@@ -1,7 +1,7 @@
 use mathlib.Core.Path.{_≡_, refl}
 use denote.Ref.{now}
-use Rattle.segment.specs.Held.{seek-in}
-use Rattle.segment.specs.Spots.{Spot}
+use Rattle.decoding.specs.Held.{seek-in}
+use Rattle.decoding.specs.Spots.{Spot}
 use Rattle.reading.specs.Cursors.{postings-from}
 use Rattle.reading.proofs.Seeks.{Ahead, seek-stop, seek-end, seek-next}
 use Rattle.reading.proofs.Entering.{postings-ahead}

@@ -1,0 +1,3 @@
+-- Laws that belong to no one function, lowest first.
+pub mod Ranges
+pub mod Text

@@ -1,0 +1,40 @@
+-- The promises of the two calls, one after the other, for every outcome: what the writer promises, and what the search promises of exactly the
+-- bytes written. With demand 3 it is what writing and asking promises.
+use Prim.Native.Nat.{ℕ}
+use mathlib.Core.Path.{_≡_}
+use mathlib.Core.List.{List}
+use lib.ListN.{length, take}
+use Rattle.segment.specs.Results.{Result}
+use Rattle.reading.specs.declared.replies.Counted.{Counted}
+use Rattle.reading.specs.Answers.{count-of, filled}
+use Rattle.rules.specs.Kinds.{Phrase}
+use Rattle.search.specs.Questions.{search-text, search-two}
+use Rattle.checking.specs.Given.{Lists}
+use Rattle.writer.specs.declared.write.Written.the-variants as written
+use Rattle.writer.specs.Promise.{Wrote}
+use Rattle.joint.specs.declared.ask.Question.{Question}
+use Rattle.joint.specs.declared.ask.Question.the-variants as question
+use Rattle.joint.specs.declared.ask.Asked.{Asked}
+use Rattle.joint.specs.declared.ask.Asked.the-variants as asked
+use Rattle.joint.specs.Demand.{Demand-3, near-rule, rule-of, names-of, Proper}
+
+-- a question put to the bytes of a segment
+abbrev pub put-to : (bytes : List ℕ) → Question → (name ends other : List ℕ) (room : ℕ) → Result (List ℕ)
+put-to bytes question.Phrase name ends other room = search-text bytes Phrase name ends room
+put-to bytes (question.Near window ordered) name ends other room = search-text bytes (near-rule ordered window) name ends room
+put-to bytes (question.Two window) name ends other room = search-two bytes window name other room
+
+-- the reply, and the lent buffer afterwards
+pub record Put (bytes : List ℕ) (q : Question) (name ends other found : List ℕ) (r : Counted) (found′ : List ℕ) : Type 0 where
+  pub reply : r ≡ count-of (put-to bytes q name ends other (length found))
+  pub left : found′ ≡ filled (λ xs. xs) (put-to bytes q name ends other (length found)) found
+
+-- the writer's refusal is handed on, and nothing is asked; else exactly the bytes written are asked
+abbrev pub Called : (l : Lists) (out : List ℕ) → Question → (name ends other found : List ℕ) → Asked → (out′ found′ : List ℕ) → Type 0
+Called l out q name ends other found (asked.NotWritten x) out′ found′ = Wrote l out (written.Refused x) out′ × (found′ ≡ found)
+Called l out q name ends other found (asked.Answer n c) out′ found′ =
+    Wrote l out (written.Length n) out′ × Put (take n out′) q name ends other found c found′
+
+pub record Written-then-asked (l : Lists) (out : List ℕ) (q : Question) (name ends other found : List ℕ) (r : Asked) (out′ found′ : List ℕ) : Type 0 where
+  pub demand : Demand-3 l out (rule-of q) (names-of q name ends other) (Proper q name ends other) found r out′ found′
+  pub called : Called l out q name ends other found r out′ found′

@@ -1,0 +1,90 @@
+// The calls on documents: no list is decoded.
+use crate::replies::Length;
+use decoding::metadata::Documents;
+use opening::open_segment::Opening;
+use opening::open_segment::open_layout;
+use reading::replies::Counted;
+use segment::fixed::long;
+use segment::ids::DocId;
+use segment::refusal::NO_ROOM;
+use segment::refusal::Refusal;
+ghost use mathlib.Core.Path.{_≡_};
+ghost use mathlib.Core.Option.{none};
+ghost use Prim.Native.Nat.{_≤_};
+ghost use lib.ListN.{length};
+ghost use Rattle.decoding.specs.Held.{held-documents};
+ghost use Rattle.lengths.specs.Calls.{document-len};
+ghost use Rattle.lengths.specs.Answers.{length-answer, Lengths-answered};
+ghost use Rattle.lengths.specs.Filled.{Filled-documents};
+
+// The documents of the metadata, ids and lengths side by side at the front of two buffers.
+fn fill_documents(meta: &[u8], count: u32, ids: &mut [u32], lengths: &mut [u32])
+    requires { ⌜ (length (held-documents count none (now meta)) ≤ length (now ids)) × (length (held-documents count none (now meta)) ≤ length (now lengths)) ⌝ }
+    ensures { λ r. ⌜ Filled-documents (held-documents count none (now (meta .entry))) (now (ids .entry)) (now (lengths .entry)) (now (ids .exit)) (now (lengths .exit)) ⌝ }
+{
+    let mut c = Documents::start(meta, count);
+    let mut i: usize = 0;
+    while 0 < c.left {
+        let id = c.id;
+        ids[i] = id.0;
+        lengths[i] = c.len;
+        c = c.advance(meta);
+        i += 1;
+    }
+}
+
+// How many documents the segment has, their ids and lengths in rising order of ids.
+pub fn document_lengths(bytes: &[u8], ids: &mut [u32], lengths: &mut [u32]) -> Counted
+    ensures { λ r. ⌜ Lengths-answered (now (bytes .entry)) (now (ids .entry)) (now (lengths .entry)) r (now (ids .exit)) (now (lengths .exit)) ⌝ }
+{
+    let at = match open_layout(bytes) {
+        Opening::Layout(at) => at,
+        Opening::Refused(x) => {
+            return Counted::Refused(x);
+        }
+    };
+    let n = long(at.documents);
+    if ids.len() < n {
+        return Counted::Refused(Refusal {
+            kind: NO_ROOM,
+            which: 1,
+            index: n as u64,
+        });
+    }
+    if lengths.len() < n {
+        return Counted::Refused(Refusal {
+            kind: NO_ROOM,
+            which: 2,
+            index: n as u64,
+        });
+    }
+    let metadata = at.metadata;
+    let lists = at.lists;
+    fill_documents(&bytes[metadata..lists], at.documents, ids, lengths);
+    Counted::Count(n)
+}
+
+// The length of one document, or that it is unknown.
+pub fn document_len(bytes: &[u8], id: DocId) -> Length
+    ensures { λ r. ⌜ r ≡ length-answer (document-len (now (bytes .entry)) (id .0)) ⌝ }
+{
+    let at = match open_layout(bytes) {
+        Opening::Layout(at) => at,
+        Opening::Refused(x) => {
+            return Length::Refused(x);
+        }
+    };
+    let metadata = at.metadata;
+    let lists = at.lists;
+    let meta = &bytes[metadata..lists];
+    let first = Documents::start(meta, at.documents);
+    let here = first.seek(meta, id);
+    let found = here.id;
+    if here.left == 0 {
+        return Length::Absent;
+    }
+    if found.0 != id.0 {
+        return Length::Absent;
+    }
+    Length::Known(here.len)
+}

@@ -1,0 +1,35 @@
+-- The rules in the customer's words (demand 3), for one document. `own n` are the document's own positions (document 01: a bar's own
+-- steps) of the term named n; `names` are the names of the question in turn.
+use Prim.Native.Nat.{ℕ, suc, _+_, _-_, _≤_, _<_}
+use mathlib.Core.Bool.{_&&_}
+use mathlib.Core.List.{List, []}
+use lib.Dec.{leb}
+use lib.ListN.{length, getD}
+use Rattle.segment.specs.Names.{same}
+use Rattle.rules.specs.Members.{kept}
+use Rattle.segment.specs.Elements.{_∈_}
+
+-- phrase: some start has sound i on start + i
+pub record Has-phrase (own : List ℕ → List ℕ) (names : List (List ℕ)) : Type 0 where
+  pub start : ℕ
+  pub on : (i : ℕ) → i < length names → (start + i) ∈ own (getD names i [])
+
+-- ordered near: strictly rising steps, one for each sound in turn, last minus first at most the window
+pub record Has-ordered (window : ℕ) (own : List ℕ → List ℕ) (names : List (List ℕ)) : Type 0 where
+  pub step : ℕ → ℕ
+  pub on : (i : ℕ) → i < length names → step i ∈ own (getD names i [])
+  pub rising : (i : ℕ) → suc i < length names → step i < step (suc i)
+  pub near : step (length names - 1) - step 0 ≤ window
+
+-- how often a name is mentioned
+unfoldable pub mentions : List ℕ → List (List ℕ) → ℕ
+mentions n names = length (kept (same n) names)
+
+-- how many positions lie on the window + 1 consecutive steps from start on
+unfoldable pub within : (start window : ℕ) → List ℕ → ℕ
+within start window positions = length (kept (λ p. leb start p && leb p (start + window)) positions)
+
+-- unordered near: some window + 1 consecutive steps hold each different sound at least as often as it is named
+pub record Has-unordered (window : ℕ) (own : List ℕ → List ℕ) (names : List (List ℕ)) : Type 0 where
+  pub start : ℕ
+  pub holds : (n : List ℕ) → n ∈ names → mentions n names ≤ within start window (own n)

@@ -1,0 +1,7 @@
+use crate::refusal::Refusal;
+
+// What a part that was checked answers.
+pub enum Checked {
+    Passed,
+    Refused(Refusal),
+}
