@@ -142,7 +142,7 @@ pub fn list_of<'a, 'b>(case: &'b [u8], numbers: &'a [u32], part: usize) -> &'a [
     &numbers[..0]
 }
 
-// A part's size as a length in a buffer, which a sound case does not exceed.
+// A part's size as a length in a buffer, which a whole case does not exceed.
 pub fn size_within(case: &[u8], part: usize, most: usize) -> usize
     ensures { λ r. ⌜ r ≤ most ⌝ }
 {
@@ -151,7 +151,7 @@ pub fn size_within(case: &[u8], part: usize, most: usize) -> usize
 }
 
 // Whether the call is one of the eleven, the parts fill the case, and the lent buffers are no longer than the format allows.
-fn is_sound(case: &[u8], end: usize) -> bool {
+fn is_whole(case: &[u8], end: usize) -> bool {
     let bytes = bytes_end(case);
     let numbers = sizes(case, ENDS, HEAD);
     if 4096 < bytes {
@@ -170,7 +170,7 @@ fn is_sound(case: &[u8], end: usize) -> bool {
         && size_of(case, THIRD) <= 64
 }
 
-// The next case, size and all, at the front of the slice; false where the list ends, or has no whole and sound case there.
+// The next case, size and all, at the front of the slice; false where the list ends, or has no whole case there.
 fn read_into(fd: i32, case: &mut [u8]) -> bool {
     if case.len() < HEAD {
         return false;
@@ -189,7 +189,7 @@ fn read_into(fd: i32, case: &mut [u8]) -> bool {
     if io::read_full(fd, &mut case[4..end]) < size {
         return false;
     }
-    is_sound(case, end)
+    is_whole(case, end)
 }
 
 pub fn read_case(fd: i32, case: &mut [u8; 4096]) -> bool {
