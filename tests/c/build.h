@@ -49,7 +49,7 @@ struct bytes assemble(struct parts parts);
 /* The checksums of the header, and of each list, made to fit what stands in the sections. */
 void repair(struct bytes *segment);
 
-/* Document 01's two bars, byte by byte: (3, 16), (7, 16); kick in 3 on 0, 4, 15 and in 7 on 2; snare in 3 on 8, 14 and in 7 on 3, 4. */
+/* The two bars of docs/FORMAT.md, byte by byte: (3, 16), (7, 16); kick in 3 on 0, 4, 15, in 7 on 2; snare in 3 on 8, 14, in 7 on 3, 4. */
 struct bytes two_bars(void);
 
 /* Unlike numbers throughout: documents (2, 5), (9, 300), (70000, 4096), and hat in 9 on 0, 128, 299. */

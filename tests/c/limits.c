@@ -114,7 +114,7 @@ static void test_long_lists(const uint32_t *many, const uint8_t *text) {
     }
 }
 
-/* The same over records, with lent lists that do not fit: 12 goes by the records and the six lists, not by the lent lists, and 11 follows. */
+/* The same over records, with lent lists of the wrong length: 12 applies to records and lists, not to the lent lists; then 11. */
 static void test_long_records(uint32_t *many, const uint8_t *text) {
     pstp_document_length *documents = calloc(OVER, sizeof documents[0]);
     uint32_t one[1] = {0};

@@ -1,4 +1,4 @@
-/* pstp_open and the two calls on documents: what opening accepts, and each of its refusals in document 01's order. */
+/* pstp_open and the two calls on documents: what opening accepts, and each of its refusals in the order of docs/FORMAT.md. */
 #include "build.h"
 #include "check.h"
 

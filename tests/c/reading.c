@@ -70,8 +70,9 @@ static void test_room(const struct term *row, size_t ids_room, size_t counts_roo
     struct bytes s = row->segment();
     struct numbers ids = numbers(row->ids), counts = numbers(row->counts), positions = numbers(row->positions);
     struct lent x = lent(), y = lent(), z = lent();
-    pstp_reply got = pstp_term_postings(s.at, s.len, (const uint8_t *)row->name, strlen(row->name), x.place, ids_room, y.place, counts_room,
-                                        z.place, positions_room);
+    const uint8_t *name = (const uint8_t *)row->name;
+    pstp_reply got = pstp_term_postings(s.at, s.len, name, strlen(row->name), x.place, ids_room, y.place, counts_room, z.place,
+                                        positions_room);
     pstp_reply want = accepted(ids.len, positions.len);
     if (ids_room < ids.len) {
         want = refused(PSTP_NO_ROOM, 1, ids.len);

@@ -24,7 +24,7 @@ static const struct question {
     uint32_t window;
     const char *ids;
 } questions[] = {
-    /* Document 01's bars. */
+    /* The two bars of docs/FORMAT.md. */
     {two_bars, PHRASE, "kick snare", 0, "7"},
     {two_bars, PHRASE, "kick snare snare", 0, "7"},
     {two_bars, PHRASE, "snare", 0, "3 7"},
@@ -156,7 +156,7 @@ static void test_text(const struct text *row) {
     append(&text, row->text, len);
     for (int cut = 0; cut <= 1; cut++) {
         size_t segment_len = cut ? 71 : s.len;
-        pstp_reply want = row->kind ? refused(row->kind, 0, 0) : cut ? refused(PSTP_TRUNCATED, PSTP_HEADER, 0) : accepted(0, 0);
+        pstp_reply want = row->kind ? refused(row->kind, 0, 0) : cut ? refused(PSTP_TRUNCATED, PSTP_SECTION_HEADER, 0) : accepted(0, 0);
         expect_reply(row->note, pstp_phrase_match_strs(s.at, segment_len, text.at, text.len, ends.at, ends.len, x.place, ROOM), want);
         for (uint32_t window = 0; window <= 2; window++) { /* idle or not */
             for (int ordered = 0; ordered <= 1; ordered++) {

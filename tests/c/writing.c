@@ -1,4 +1,4 @@
-/* The writer: exact bytes, every refusal in document 01's order, and the slice in each case; each also over records. */
+/* The writer: exact bytes, every refusal in the order of docs/FORMAT.md, and the buffer in each case; each also over records. */
 #include "build.h"
 #include "check.h"
 
@@ -174,7 +174,7 @@ static void test_over_records(const char *note, const struct given *g, size_t ro
     }
 }
 
-/* A lent list that has not a place for each record is 11, before any other test but 12 (limits.c). */
+/* A lent list with too few or too many elements is 11, before any other check but 12 (limits.c). */
 static void test_misfits(void) {
     static const struct given id_twice = {"3 3", "16 16", "", "", "", "", "", ""};
     const struct given *rows[] = {&segments[0].given, &segments[1].given, &id_twice};
@@ -224,7 +224,7 @@ void test_writing(void) {
         test_segment(&segments[i]);
     }
 
-    /* Document 01 in its own words. */
+    /* The worked examples, byte by byte. */
     struct bytes out, want;
     mark(&out);
     want = two_bars();

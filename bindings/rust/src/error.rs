@@ -86,7 +86,7 @@ fn named(names: &[&'static str], which: u32) -> Option<&'static str> {
 }
 
 impl Error {
-    /// The error with these numbers (document 01: kind, which, index), or none.
+    /// The error with these numbers (docs/FORMAT.md: kind, which, index), or none.
     pub(crate) fn of_numbers(kind: u32, which: u32, index: u64) -> Option<Self> {
         let section = || named(&SECTIONS, which);
         let index = usize::try_from(index).ok()?;

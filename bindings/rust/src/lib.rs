@@ -1,8 +1,8 @@
-//! Positional segments: documents, terms and token positions in one run of bytes, and the phrase and near search over them.
+//! Positional segments: documents, terms and token positions in one sequence of bytes, and the phrase and near search over them.
 //!
 //! Names and shapes are those of `src/positional/raw.rs` of arclabs561/postings (MIT OR Apache-2.0); the work is done by `libpstp.a`, in
-//! which every call is proved to answer what its definition says. This crate turns slices of slices into the library's flat lists, lends
-//! the buffers, and gives refusals their names.
+//! which every call is proved to return what its definition says. This crate turns slices of slices into the library's flat lists, lends
+//! the buffers, and turns refusals into errors. `docs/FORMAT.md` of the repository describes the format and the rules of the search.
 //!
 //! ```
 //! use pstp::{write_positional_segment, PositionalPosting, PositionalTermPostings, RawPositionalSegment};
@@ -22,9 +22,9 @@
 //!
 //! # What differs from the original
 //!
-//! - Each call opens the segment anew: the library keeps nothing between calls. A call therefore reads the whole segment once, and every
-//!   method answers a [`Result`]; after [`RawPositionalSegment::open`] has accepted the bytes, opening them again cannot fail.
-//! - A question has at most 128 terms, and each list handed in at most 16,777,216 elements: else [`Error::TooLarge`].
+//! - Each call opens the segment again: the library keeps nothing between calls. A call therefore reads the whole segment once, and every
+//!   method returns a [`Result`]; after [`RawPositionalSegment::open`] has accepted the bytes, opening them again cannot fail.
+//! - A question has at most 128 terms, and each list at most 16,777,216 elements; otherwise [`Error::TooLarge`].
 //! - Files and the hash-map index are left out.
 #![deny(missing_docs)]
 #![deny(unsafe_code)]

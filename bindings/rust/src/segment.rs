@@ -8,7 +8,7 @@ use crate::Error;
 
 /// A byte-backed immutable positional segment.
 ///
-/// It holds the bytes and their two counts, nothing decoded: each method opens and checks the bytes anew.
+/// It holds the bytes and their two counts, nothing decoded: each method opens and checks the bytes again.
 #[derive(Clone, Copy, Debug)]
 pub struct RawPositionalSegment<'a> {
     bytes: &'a [u8],
@@ -93,9 +93,9 @@ impl<'a> RawPositionalSegment<'a> {
         Ok(front(positions, count as u64))
     }
 
-    /// Exact phrase match over borrowed term strings: term i stands on start + i, for some start.
+    /// Exact phrase match over borrowed term strings: term i is on start + i, for some start.
     ///
-    /// A term that is named twice must stand twice. A phrase of no terms answers none.
+    /// A term that is named twice must occur twice. A phrase of no terms matches nothing.
     pub fn phrase_match_strs(&self, phrase: &[&str]) -> Result<Vec<DocId>, Error> {
         let names = Names::of(phrase)?;
         self.documents(|ids| sys::phrase_match_strs(self.bytes, &names, ids))
@@ -103,7 +103,7 @@ impl<'a> RawPositionalSegment<'a> {
 
     /// Proximity match: returns docs where `a` and `b` occur within `window` tokens, in any order.
     ///
-    /// Where `a` is `b`, it must stand twice. A window of 0 answers none.
+    /// If `a` equals `b`, it must occur twice. A window of 0 matches nothing.
     pub fn near_match(&self, a: &str, b: &str, window: u32) -> Result<Vec<DocId>, Error> {
         self.documents(|ids| sys::near_match(self.bytes, a, b, window, ids))
     }

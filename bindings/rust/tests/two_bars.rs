@@ -1,4 +1,4 @@
-//! Document 01's bars, by every call.
+//! The two bars of docs/FORMAT.md, by every call.
 
 mod common;
 

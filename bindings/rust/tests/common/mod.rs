@@ -1,4 +1,4 @@
-//! Document 01's two bars, and segments broken on purpose.
+//! The two bars of docs/FORMAT.md, and segments broken on purpose.
 #![allow(dead_code)] // Each test file uses a part.
 
 use pstp::{
