@@ -38,7 +38,7 @@ fn cases() -> [(&'static str, Given); 5] {
     ]
 }
 
-const FILE: &str = "crates/table/specs/Segments.antt";
+const FILE: &str = "crates/cases/specs/Segments.antt";
 
 fn written(given: &Given) -> String {
     found(&given.flat().case(), &opened(&[])).map_or_else(|refused| format!("{refused:?}"), |answer| hex(&answer.bytes))

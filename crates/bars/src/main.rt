@@ -1,15 +1,15 @@
-// Document 01's bars to try: written, listed, asked. What each line must say stands in the file stdout, written from document 01 and not from
-// a run. The marked cases are settled by computing the definitions as well (crate table); here the program answers them.
+// Document 01's bars to try: written, listed, asked. The file stdout has what each line must say, written from document 01 and not
+// from a run. The marked cases are settled by computing the definitions as well (crate cases); here the program answers them.
+use ask_search::questions::near_match_terms_strs;
+use ask_search::questions::phrase_match_strs;
 use libc::STDOUT_FILENO;
-use lines::print::write_listing;
-use opening::open_segment::Opened;
-use opening::open_segment::open;
-use reading::replies::Counted;
-use search::calls::near_match_terms_strs;
-use search::calls::phrase_match_strs;
+use read_open::open_segment::open;
 use segment::refusal::Refusal;
-use writer::write::Written;
-use writer::write::write_positional_segment;
+use segment::replies::Counted;
+use segment::replies::Opened;
+use segment::replies::Written;
+use show_print::print::write_listing;
+use write_segment::write::write_positional_segment;
 
 fn put(s: &[u8]) {
     io::write_all(STDOUT_FILENO, s);

@@ -1,7 +1,7 @@
-// Lists one file after another: each argument names one, and its listing stands below its name. The files in data/ and the stored output
+// Lists one file after another: each argument names one, and its listing follows its name. The files in data/ and the stored output
 // are made by runs.py, from document 01's words and not from a run.
 use libc::STDOUT_FILENO;
-use lines::print::write_listing;
+use show_print::print::write_listing;
 
 fn list_file(name: &[u8]) {
     let fd = os::open_read(name);

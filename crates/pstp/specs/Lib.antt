@@ -1,2 +1,2 @@
--- The C interface: what a reply has for each answer, and the promise of the calls.
-pub mod Replies
+-- What the calls promise:
+pub mod Promise

@@ -1,14 +1,16 @@
 // The searches. Each answers first: how many documents meet the question, and their ids, rising, in the buffer; or a refusal.
 use crate::reply::Reply;
 use crate::reply::of_counted;
-use search::calls::near_match;
-use search::calls::near_match_terms_strs;
-use search::calls::phrase_match_strs;
-use walking::document::Ask;
-ghost use Rattle.search.specs.Asked.{near-ask, Text-answered, Two-answered};
-ghost use Rattle.pstp.specs.Replies.{Replied, counted-reply};
+use ask_search::questions::near_match;
+use ask_search::questions::near_match_terms_strs;
+use ask_search::questions::phrase_match_strs;
+use rules::rule::Rule;
+ghost use Rattle.common.specs.Slices.{was, left};
+ghost use Rattle.rules.specs.Kinds.{near-rule};
+ghost use Rattle.ask_search.specs.Promise.{Text-answered, Two-answered};
+ghost use Rattle.pstp.specs.Promise.{Replied, counted-reply};
 
-// first: in how many documents the names stand on consecutive positions; their ids, rising.
+// first: the number of documents in which the names have consecutive positions; their ids, rising.
 #[no_mangle]
 pub extern "C" fn pstp_phrase_match_strs(
     bytes: &[u8],
@@ -16,12 +18,12 @@ pub extern "C" fn pstp_phrase_match_strs(
     ends: &[u32],
     ids: &mut [u32],
 ) -> Reply
-    ensures { λ r. ⌜ Replied counted-reply (λ a. Text-answered (now (bytes .entry)) Ask.Phrase (now (text .entry)) (now (ends .entry)) (now (ids .entry)) a (now (ids .exit))) r ⌝ }
+    ensures { λ r. ⌜ Replied counted-reply (λ a. Text-answered (was bytes) Rule.Phrase (was text) (was ends) (was ids) a (left ids)) r ⌝ }
 {
     of_counted(phrase_match_strs(bytes, text, ends, ids))
 }
 
-// first: in how many documents two names stand within a window, in any order; their ids, rising.
+// first: the number of documents in which two names are within a window, in any order; their ids, rising.
 #[no_mangle]
 pub extern "C" fn pstp_near_match(
     bytes: &[u8],
@@ -30,12 +32,12 @@ pub extern "C" fn pstp_near_match(
     window: u32,
     ids: &mut [u32],
 ) -> Reply
-    ensures { λ r. ⌜ Replied counted-reply (λ c. Two-answered (now (bytes .entry)) window (now (a .entry)) (now (b .entry)) (now (ids .entry)) c (now (ids .exit))) r ⌝ }
+    ensures { λ r. ⌜ Replied counted-reply (λ c. Two-answered (was bytes) window (was a) (was b) (was ids) c (left ids)) r ⌝ }
 {
     of_counted(near_match(bytes, a, b, window, ids))
 }
 
-// first: in how many documents the names stand within a window, in the order named or in any; their ids, rising.
+// first: the number of documents in which the names are within a window, in the order named or in any; their ids, rising.
 #[no_mangle]
 pub extern "C" fn pstp_near_match_terms_strs(
     bytes: &[u8],
@@ -45,7 +47,8 @@ pub extern "C" fn pstp_near_match_terms_strs(
     ordered: bool,
     ids: &mut [u32],
 ) -> Reply
-    ensures { λ r. ⌜ Replied counted-reply (λ a. Text-answered (now (bytes .entry)) (near-ask ordered window) (now (text .entry)) (now (ends .entry)) (now (ids .entry)) a (now (ids .exit))) r ⌝ }
+    ensures { λ r. ⌜ Replied counted-reply (λ a. Text-answered (was bytes) (near-rule ordered window) (was text) (was ends) (was ids) a
+        (left ids)) r ⌝ }
 {
     of_counted(near_match_terms_strs(bytes, text, ends, window, ordered, ids))
 }

@@ -1,13 +1,14 @@
 // One reply for all calls: kind 0 is acceptance, with the answer's numbers; else the three numbers of a refusal.
-use lengths::replies::Length;
-use opening::open_segment::Opened;
-use positions::replies::Listed;
-use postings::replies::DocFreq;
-use reading::replies::Counted;
 use segment::refusal::Refusal;
-use writer::write::Written;
+use segment::replies::Counted;
+use segment::replies::DocFreq;
+use segment::replies::Length;
+use segment::replies::Opened;
+use segment::replies::TermTotals;
+use segment::replies::Written;
 ghost use mathlib.Core.Path.{_≡_};
-ghost use Rattle.pstp.specs.Replies.{accepted, refused, opened-reply, length-reply, frequency-reply, counted-reply, listed-reply, written-reply};
+ghost use Rattle.pstp.specs.Promise.{accepted, refused, opened-reply, length-reply, frequency-reply, counted-reply, listed-reply};
+ghost use Rattle.pstp.specs.Promise.{written-reply};
 
 // kind 0: accepted, and first and second have the answer's numbers. Else a refusal, and both are 0.
 #[repr(C)]
@@ -87,12 +88,12 @@ pub fn of_counted(a: Counted) -> Reply
 }
 
 // postings, positions
-pub fn of_listed(a: Listed) -> Reply
+pub fn of_listed(a: TermTotals) -> Reply
     ensures { λ r. ⌜ r ≡ listed-reply a ⌝ }
 {
     match a {
-        Listed::Totals(t) => accept(t.postings as u64, t.positions as u64),
-        Listed::Refused(x) => refuse(x),
+        TermTotals::Totals(t) => accept(t.postings as u64, t.positions as u64),
+        TermTotals::Refused(x) => refuse(x),
     }
 }
 

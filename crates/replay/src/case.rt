@@ -1,6 +1,6 @@
 // A case of the list: its fields, and where the parts of its data lie.
+use common::widths::long;
 use pstp::reply::Reply;
-use segment::fixed::long;
 use segment::fixed::read_u32_at;
 use segment::fixed::read_usize_at;
 use segment::names::starts_with;

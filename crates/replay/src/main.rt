@@ -22,7 +22,7 @@ use print::put_total;
 use run::run;
 ghost use Prim.Native.Nat.{_<_};
 
-// Where a call or a kind is counted: the last place stands for all numbers from 15 on.
+// Where a call or a kind is counted: the last place counts all numbers from 15 on.
 fn place_of(x: u32) -> usize
     ensures { λ r. ⌜ r < 16 ⌝ }
 {

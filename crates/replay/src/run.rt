@@ -54,7 +54,7 @@ fn same_reply(a: Reply, b: Reply) -> bool {
         && a.second == b.second
 }
 
-// Whether the buffers begin with what stands in the case.
+// Whether the buffers begin with what the case has.
 fn same_buffers(
     case: &[u8; 4096],
     numbers: &[u32; 1024],

@@ -7,8 +7,8 @@ use Prim.Native.Nat.{ℕ, zero, suc, _^_, _≤_, _<_}
 use native.Mathlib.Nat.{pow-suc}
 use native.Mathlib.Omega.{arith}
 use lib.ListN.{length, replicate, length-append, length-map}
-use Rattle.checksum.specs.Crc32.{remainder, message, complement-first, number, crc32Of}
-use Rattle.checksum.proofs.Division.{divides}
+use Rattle.crc32.specs.Crc32.{remainder, message, complement-first, number, crc32Of}
+use Rattle.crc32.proofs.Division.{divides}
 
 number-lt : (bs : List Bool) → number bs < 2 ^ length bs
 unfolding number
@@ -26,6 +26,7 @@ pub crc-lt : (bytes : List ℕ) → crc32Of bytes < 2 ^ 32
 unfolding crc32Of
 crc-lt bytes =
     let p = complement-first 32 (message bytes ++ replicate 32 false) in
-    let long : 32 ≤ length p = omega (arith, complement-length 32 (message bytes ++ replicate 32 false), length-append (message bytes) (replicate 32 false)) in
+    let long : 32 ≤ length p = omega
+    (arith, complement-length 32 (message bytes ++ replicate 32 false), length-append (message bytes) (replicate 32 false)) in
     let size : length (map not (remainder p)) ≡ 32 = length-map (remainder p) not ∙ divides p long .size in
     rw size at (number-lt (map not (remainder p)))

@@ -6,11 +6,12 @@ use Prim.Native.Nat.{ℕ, _+_}
 use lib.ListN.{length}
 use Rattle.segment.specs.Records.{Term}
 use Rattle.segment.specs.Postings.{total-positions}
-use Rattle.checking.specs.Given.{Lists, given, laid-flat, joined}
-use Rattle.checking.specs.Acceptance.{Shape}
-use Rattle.writer.proofs.Flat.{flat-again}
-use Rattle.writer.proofs.Lengths.{all-positions, total-is}
-use Rattle.roundtrip.specs.Back.{all-position-counts}
+use Rattle.calls.specs.Given.{Lists, given, laid-flat}
+use Rattle.common.specs.Lists.{joined}
+use Rattle.calls.specs.Acceptance.{Shape}
+use Rattle.calls.proofs.Flat.{flat-again}
+use Rattle.calls.proofs.Lengths.{all-positions, total-is}
+use Rattle.roundtrip.specs.Claims.{all-position-counts}
 
 counts-are : (ts : List Term) → all-position-counts ts ≡ length (all-positions (joined (map (λ t. t .postings) ts)))
 counts-are [] = refl

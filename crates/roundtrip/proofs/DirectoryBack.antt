@@ -9,21 +9,21 @@ use Prim.Native.Nat.{ℕ, _+_, _*_, _^_, _<_}
 use native.Mathlib.Omega.{arith}
 use lib.ListN.{length, length-append}
 use borrow.Author.Tests.{lt-ltb, eq-eqb}
-use Rattle.checksum.specs.Crc32.{crc32Of}
-use Rattle.encoding.proofs.Text.{grammar-agrees}
+use Rattle.crc32.specs.Crc32.{crc32Of}
+use Rattle.utf8.proofs.Text.{grammar-agrees}
 use Rattle.segment.specs.Refusals.{term-bytes, postings}
 use Rattle.segment.specs.Results.{ok}
 use Rattle.segment.specs.Records.{Document, Term}
 use Rattle.segment.specs.Directory.{follows, read-list-range, read-entry, read-entries, directory}
-use Rattle.storing.specs.Bytes.{list-bytes, entry-bytes, directory-bytes, name-bytes, lists-bytes}
-use Rattle.checking.specs.Acceptance.{Term-fine}
-use Rattle.segment.specs.Elements.{_∈_}
-use Rattle.checking.proofs.Rising.{After-name, name-head, name-tail}
-use Rattle.checking.proofs.Accepted.{names-of}
+use Rattle.segment.specs.Written.{list-bytes, entry-bytes, directory-bytes, name-bytes, lists-bytes}
+use Rattle.calls.specs.Acceptance.{Term-fine}
+use Rattle.common.specs.Elements.{_∈_}
+use Rattle.calls.proofs.Rising.{After-name, name-head, name-tail}
+use Rattle.calls.proofs.Accepted.{names-of}
 use Rattle.roundtrip.proofs.Checksums.{crc-lt}
 use Rattle.roundtrip.proofs.Front.{part-between}
 use Rattle.roundtrip.proofs.NumbersBack.{fixed-back}
-use Rattle.writer.proofs.Lengths.{directory-length}
+use Rattle.calls.proofs.Lengths.{directory-length}
 use Rattle.roundtrip.proofs.PostingsBack.{entry-for}
 
 -- an entry that stands in front of others; before and after it stand the names and the lists of other terms
@@ -32,13 +32,16 @@ module _ (documents : List Document) (t : Term) (f : Term-fine documents t) (few
     (short-names : length (names-before ++ (t .name ++ names-after)) < 2 ^ 32)
     (short-lists : length (lists-before ++ (list-bytes t ++ lists-after)) < 2 ^ 64) where
   entry-back : (previous : Option (List ℕ)) → follows previous (t .name) ≡ true
-      → read-entry previous (entry-bytes (length names-before) (length (t .name)) (length lists-before) (list-bytes t) (length (t .postings)) ++ rest)
+      → read-entry previous
+      (entry-bytes (length names-before) (length (t .name)) (length lists-before) (list-bytes t) (length (t .postings)) ++ rest)
       (names-before ++ (t .name ++ names-after)) (lists-before ++ (list-bytes t ++ lists-after))
       ≡ ok (entry-for t)
   unfolding read-entry read-list-range
   entry-back previous later =
-      let ln : length (names-before ++ (t .name ++ names-after)) ≡ length names-before + (length (t .name) + length names-after) = simp length-append in
-      let ll : length (lists-before ++ (list-bytes t ++ lists-after)) ≡ length lists-before + (length (list-bytes t) + length lists-after) = simp length-append in
+      let ln : length (names-before ++ (t .name ++ names-after))
+      ≡ length names-before + (length (t .name) + length names-after) = simp length-append in
+      let ll : length (lists-before ++ (list-bytes t ++ lists-after))
+      ≡ length lists-before + (length (list-bytes t) + length lists-after) = simp length-append in
       rw (
         fixed-back 4 (length names-before) (omega arith),
         fixed-back 4 (length (t .name)) (omega arith),
@@ -48,7 +51,7 @@ module _ (documents : List Document) (t : Term) (f : Term-fine documents t) (few
         fixed-back 4 (crc32Of (list-bytes t)) (crc-lt (list-bytes t)),
         part-between term-bytes names-before (t .name) names-after (length names-before) (length (t .name)) refl refl (omega arith),
         grammar-agrees (t .name) .1 (f .text),
-        lt-ltb 0 (length (t .name)) (f .named),
+        lt-ltb 0 (length (t .name)) (f .not-empty),
         later,
         part-between postings lists-before (list-bytes t) lists-after (length lists-before) (length (list-bytes t)) refl refl short-lists,
         lt-ltb 0 (length (t .postings)) (f .has-postings),

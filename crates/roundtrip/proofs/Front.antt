@@ -7,8 +7,8 @@ use native.Mathlib.Omega.{arith}
 use lib.ListN.{length, length-append}
 use lib.Seq.{drop-append-seam, drop-at, take-at}
 use borrow.Author.Tests.{lt-ltb, le-leb}
-use Rattle.codec.specs.Leb128.{encoded}
-use Rattle.codec.proofs.Shortest.{read-back}
+use Rattle.leb128.specs.Leb128.{encoded}
+use Rattle.leb128.proofs.Shortest.{read-back}
 use Rattle.segment.specs.Results.{ok}
 use Rattle.segment.specs.Records.{number}
 use Rattle.segment.specs.Directory.{part}

@@ -8,15 +8,15 @@ use mathlib.Core.Logic.{inl, inr}
 use Prim.Native.Nat.{ℕ, suc, _^_, _<_}
 use lib.ListN.{length}
 use borrow.Author.Tests.{lt-ltb}
-use Rattle.codec.specs.Leb128.{encoded}
+use Rattle.leb128.specs.Leb128.{encoded}
 use Rattle.segment.specs.Refusals.{document-metadata}
 use Rattle.segment.specs.Results.{ok}
-use Rattle.segment.specs.Records.{Document, rises}
+use Rattle.segment.specs.Records.{Document, rises, gap}
 use Rattle.segment.specs.Metadata.{read-document, read-documents, metadata}
-use Rattle.storing.specs.Bytes.{gap, metadata-bytes}
-use Rattle.segment.specs.Elements.{_∈_, Rising}
-use Rattle.checking.proofs.Rising.{After, after-head, after-tail}
-use Rattle.checking.proofs.Accepted.{ids}
+use Rattle.segment.specs.Written.{metadata-bytes}
+use Rattle.common.specs.Elements.{_∈_, Rising}
+use Rattle.calls.proofs.Rising.{After, after-head, after-tail}
+use Rattle.calls.proofs.Accepted.{ids}
 use Rattle.roundtrip.proofs.Front.{number-back}
 use Rattle.roundtrip.proofs.NumbersBack.{gap-back, gap-lt}
 

@@ -7,8 +7,8 @@ use Prim.Native.Nat.{ℕ, zero, suc, _/_, _^_, _<_}
 use native.Mathlib.Nat.{pow-suc}
 use native.Mathlib.Omega.{arith}
 use borrow.Author.Tests.{ltb-true}
-use Rattle.segment.specs.Records.{little-endian, at-gap, rises}
-use Rattle.storing.specs.Bytes.{fixed, gap}
+use Rattle.segment.specs.Records.{little-endian, at-gap, rises, gap}
+use Rattle.segment.specs.Written.{fixed}
 
 pub fixed-back : (n x : ℕ) → x < 256 ^ n → little-endian (fixed n x) ≡ x
 fixed-back zero x h = omega arith

@@ -6,7 +6,7 @@ use Prim.Native.Nat.{ℕ, _+_, _^_, _<_}
 use native.Mathlib.Omega.{arith}
 use lib.ListN.{length, take, length-append}
 use borrow.Author.Tests.{le-leb, eq-eqb}
-use Rattle.checksum.specs.Crc32.{crc32Of}
+use Rattle.crc32.specs.Crc32.{crc32Of}
 use Rattle.segment.specs.Refusals.{term-directory, term-bytes, document-metadata, postings}
 use Rattle.segment.specs.Results.{ok}
 use Rattle.segment.specs.Records.{Document, Entry, field}
@@ -14,7 +14,7 @@ use Rattle.segment.specs.Names.{same}
 use Rattle.segment.specs.Metadata.{metadata}
 use Rattle.segment.specs.Directory.{part, directory}
 use Rattle.segment.specs.Opening.{magic, Sections, ranges, sections, section-checksum, checksums, contents, open-segment}
-use Rattle.storing.specs.Bytes.{header-bytes, with-header}
+use Rattle.segment.specs.Written.{header-bytes, with-header}
 use Rattle.roundtrip.proofs.Checksums.{crc-lt}
 use Rattle.roundtrip.proofs.Front.{part-between}
 use Rattle.roundtrip.proofs.NumbersBack.{fixed-back}
@@ -90,10 +90,13 @@ sections-placed : (header : List ℕ) (s : Sections) → length header ≡ 72
     → 72 + length (s .directory) + length (s .names) + length (s .metadata) + length (s .lists) < 2 ^ 64
     → Placed (header ++ (s .directory ++ (s .names ++ (s .metadata ++ s .lists)))) s
 sections-placed header s is h = record {
-  directory = part-between term-directory header (s .directory) (s .names ++ (s .metadata ++ s .lists)) 72 (length (s .directory)) (sym is) refl fits;
+  directory =
+      part-between term-directory header (s .directory) (s .names ++ (s .metadata ++ s .lists)) 72 (length (s .directory))
+      (sym is) refl fits;
   names =
       rw append-assoc at
-      (part-between term-bytes (header ++ s .directory) (s .names) (s .metadata ++ s .lists) (72 + length (s .directory)) (length (s .names))
+      (part-between term-bytes (header ++ s .directory) (s .names) (s .metadata ++ s .lists) (72 + length (s .directory))
+      (length (s .names))
       (omega (arith, length-append header (s .directory))) refl (simp append-assoc fits));
   metadata =
       simp append-assoc at

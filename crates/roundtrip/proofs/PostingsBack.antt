@@ -9,21 +9,21 @@ use Prim.Native.Nat.{ℕ, suc, _^_, _<_}
 use native.Mathlib.Omega.{arith}
 use lib.ListN.{length}
 use borrow.Author.Tests.{lt-ltb, eq-eqb}
-use Rattle.codec.specs.Leb128.{encoded}
-use Rattle.checksum.specs.Crc32.{crc32Of}
+use Rattle.leb128.specs.Leb128.{encoded}
+use Rattle.crc32.specs.Crc32.{crc32Of}
 use Rattle.segment.specs.declared.refusal.Refusal.{Refusal}
 use Rattle.segment.specs.Refusals.{postings}
 use Rattle.segment.specs.Results.{ok}
-use Rattle.segment.specs.Records.{Document, Posting, Term, Entry, rises}
+use Rattle.segment.specs.Records.{Document, Posting, Term, Entry, rises, gap}
 use Rattle.segment.specs.Metadata.{length-of}
 use Rattle.segment.specs.Postings.{read-value, read-position, read-positions, read-head, read-posting, read-postings, all-postings, decode}
-use Rattle.storing.specs.Bytes.{gap, position-bytes, posting-bytes, postings-bytes, list-bytes}
-use Rattle.checking.specs.Acceptance.{Posting-fine, Term-fine}
-use Rattle.segment.specs.Elements.{_∈_, Rising}
+use Rattle.segment.specs.Written.{position-bytes, posting-bytes, postings-bytes, list-bytes}
+use Rattle.calls.specs.Acceptance.{Posting-fine, Term-fine}
+use Rattle.common.specs.Elements.{_∈_, Rising}
 use Rattle.segment.specs.Contents.{decode-all}
-use Rattle.checking.proofs.Rising.{After, after-head, after-tail}
-use Rattle.lookup.proofs.Known.{known-from}
-use Rattle.checking.proofs.Accepted.{ids, docs}
+use Rattle.calls.proofs.Rising.{After, after-head, after-tail}
+use Rattle.calls.proofs.Known.{known-from}
+use Rattle.calls.proofs.Accepted.{ids, docs}
 use Rattle.roundtrip.proofs.Front.{number-back}
 use Rattle.roundtrip.proofs.NumbersBack.{gap-back, gap-lt}
 use Rattle.roundtrip.proofs.MetadataBack.{Numbers-fit}
@@ -32,7 +32,13 @@ value-back : (over order : Refusal) (index : ℕ) (previous : Option ℕ) (v : �
     → read-value over order index previous (encoded (gap previous v) ++ rest) ≡ ok (record { got = v; rest = rest })
 unfolding read-value
 value-back over order index previous v rest up small =
-    rw (number-back postings index (gap previous v) rest (gap-lt previous v (2 ^ 32) small), gap-back previous v up, lt-ltb v (2 ^ 32) small, up)
+    rw (
+      number-back postings index (gap previous v) rest (gap-lt previous v (2 ^ 32) small),
+      gap-back previous v up,
+      lt-ltb v
+          (2 ^ 32) small,
+      up,
+    )
 
 -- the directory entry of a term
 abbrev pub entry-for : Term → Entry
@@ -70,7 +76,8 @@ module _ (documents : List Document) (rise : Rising (ids documents)) (small : Nu
       let is : length-of documents (p .doc) ≡ some (f .of .len) = rw (← f .same) (known-from documents rise (f .of) (f .known)) in
       simp append-assoc
       (rw (
-        value-back _ _ place previous (p .doc) (encoded (length (p .positions)) ++ (position-bytes none (p .positions) ++ rest)) up (rw (f .same) at (d .0)),
+        value-back _ _ place previous (p .doc) (encoded (length (p .positions)) ++ (position-bytes none (p .positions) ++ rest)) up
+            (rw (f .same) at (d .0)),
         is,
         number-back postings place (length (p .positions)) (position-bytes none (p .positions) ++ rest) few,
         lt-ltb 0 (length (p .positions)) (f .has-positions),
@@ -85,8 +92,10 @@ module _ (documents : List Document) (rise : Rising (ids documents)) (small : Nu
   postings-back (p ∷ ps) previous place rest a f few =
       rw (
         append-assoc,
-        posting-back place previous p (postings-bytes (some (p .doc)) ps ++ rest) (after-head previous (p .doc) (docs ps) a) (f p (inl refl)) (few p (inl refl)),
-        postings-back ps (some (p .doc)) (suc place) rest (after-tail previous (p .doc) (docs ps) a) (λ q m. f q (inr m)) (λ q m. few q (inr m)),
+        posting-back place previous p (postings-bytes (some (p .doc)) ps ++ rest) (after-head previous (p .doc) (docs ps) a)
+            (f p (inl refl)) (few p (inl refl)),
+        postings-back ps (some (p .doc)) (suc place) rest (after-tail previous (p .doc) (docs ps) a) (λ q m. f q (inr m))
+            (λ q m. few q (inr m)),
       )
 
   -- ---- a term's list, and all of them

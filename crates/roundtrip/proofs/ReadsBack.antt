@@ -10,18 +10,19 @@ use lib.ListN.{length, length-map}
 use Rattle.segment.specs.Results.{ok}
 use Rattle.segment.specs.Records.{Document, Posting, Term}
 use Rattle.segment.specs.Opening.{open-segment}
-use Rattle.checking.specs.Given.{Lists, given, laid-flat, joined}
-use Rattle.storing.specs.Bytes.{segment-bytes, directory-bytes, name-bytes, metadata-bytes, lists-bytes}
-use Rattle.checking.specs.Acceptance.{Lists-fine}
-use Rattle.segment.specs.Elements.{_∈_}
-use Rattle.segment.proofs.Elements.{map-from}
-use Rattle.roundtrip.specs.Back.{Below, Typed, Reads-back}
+use Rattle.calls.specs.Given.{Lists, given, laid-flat}
+use Rattle.common.specs.Lists.{joined}
+use Rattle.segment.specs.Written.{segment-bytes, directory-bytes, name-bytes, metadata-bytes, lists-bytes}
+use Rattle.calls.specs.Acceptance.{Lists-fine}
+use Rattle.common.specs.Elements.{_∈_}
+use Rattle.common.proofs.Elements.{map-from}
+use Rattle.roundtrip.specs.Claims.{Below, Typed, Reads-back}
 use Rattle.segment.specs.Contents.{decode-segment}
-use Rattle.checking.proofs.Members.{in-joined}
-use Rattle.writer.proofs.Accepts.{accepted-gives, accepted-is}
-use Rattle.writer.proofs.Flat.{flat-again, text-is}
+use Rattle.common.proofs.Membership.{joined-from}
+use Rattle.calls.proofs.Accepts.{accepted-gives, accepted-is}
+use Rattle.calls.proofs.Flat.{flat-again, text-is}
 use Rattle.roundtrip.proofs.Counts.{counts-add-up}
-use Rattle.writer.proofs.Lengths.{metadata-size, lists-small, directory-length}
+use Rattle.calls.proofs.Lengths.{metadata-size, lists-small, directory-length}
 use Rattle.roundtrip.proofs.MetadataBack.{Numbers-fit, metadata-back}
 use Rattle.roundtrip.proofs.PostingsBack.{Few, entry-for, lists-back}
 use Rattle.roundtrip.proofs.DirectoryBack.{directory-back}
@@ -72,8 +73,11 @@ module _ (l : Lists) (typed : Typed l) (n : Lists-fine l) where
   position-counts-are = ap (λ (k : Lists). k .position-counts) flat
 
   pub numbers-fit : Numbers-fit ds
-  numbers-fit d m =
-      (taken-below (λ d. d .id) ds (l .ids) ids-are (typed .ids) d m, taken-below (λ d. d .len) ds (l .lengths) lengths-are (typed .lengths) d m)
+  numbers-fit d m = (
+    taken-below (λ d. d .id) ds (l .ids) ids-are (typed .ids) d m,
+    taken-below (λ d. d .len) ds (l .lengths) lengths-are
+        (typed .lengths) d m,
+  )
 
   few-postings : (t : Term) → t ∈ ts → length (t .postings) < 2 ^ 32
   few-postings = taken-below (λ t. length (t .postings)) ts (l .posting-counts) posting-counts-are (typed .posting-counts)
@@ -81,7 +85,7 @@ module _ (l : Lists) (typed : Typed l) (n : Lists-fine l) where
   pub few-positions : (t : Term) → t ∈ ts → Few t
   few-positions t m p k =
       taken-below (λ p. length (p .positions)) ps (l .position-counts) position-counts-are (typed .position-counts) p
-      (in-joined (map (λ t. t .postings) ts) (t .postings) p (map-from (λ t. t .postings) ts t m) k)
+      (joined-from (map (λ t. t .postings) ts) (t .postings) p (map-from (λ t. t .postings) ts t m) k)
 
   short-names : length (name-bytes ts) ≤ 16777216
   short-names = rw (text-is l (n .shape)) (n .small .text)

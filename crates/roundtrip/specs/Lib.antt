@@ -1,2 +1,2 @@
--- What is claimed of the bytes written: opened and decoded, they give back what was handed in.
-pub mod Back
+-- What is claimed of the definitions:
+pub mod Claims

@@ -8,13 +8,15 @@ use Prim.Native.Nat.{ℕ, suc, _+_, _≤_, _<_}
 use native.Mathlib.Omega.{arith}
 use lib.Dec.{ltb, leb}
 use lib.ListN.{length, getD}
-use Rattle.rules.specs.Members.{joined}
-use Rattle.segment.specs.Elements.{_∈_}
+use Rattle.common.specs.Lists.{joined}
+use Rattle.common.specs.Elements.{_∈_}
 use Rattle.rules.specs.Words.{mentions, within}
-use Rattle.rules.specs.Rules.{phrase-at, starts, some-left, chain-from, ordered, unordered-at, unordered}
-use Rattle.rules.specs.Kinds.{Rule, Phrase, Ordered, Unordered, meets}
-use Rattle.rules.proofs.Membership.{in-some, place-of}
-use Rattle.rules.proofs.Kept.{every-same, some-same, kept-same, map-same}
+use Rattle.rules.specs.Rules.{phrase-at, starts, not-empty, chain-from, ordered, unordered-at, unordered}
+use Rattle.rules.specs.declared.rule.Rule.{Rule}
+use Rattle.rules.specs.declared.rule.Rule.the-variants.{Phrase, Ordered, Unordered}
+use Rattle.rules.specs.Kinds.{meets}
+use Rattle.common.proofs.Membership.{in-some, place-of}
+use Rattle.common.proofs.Kept.{every-same, some-same, kept-same, map-same}
 use Rattle.rules.proofs.Windows.{within-fewer, mentioned}
 use Rattle.rules.proofs.Rules-hold.{rules-agree}
 
@@ -52,7 +54,8 @@ module _ (f g : List ℕ → List ℕ) where
   ordered-same w [] h = refl
   ordered-same w (n ∷ ns) h =
       rw (h n (inl refl))
-      (some-same (λ p. chain-from p (p + w) f ns) (λ p. chain-from p (p + w) g ns) (g n) (λ p m. chain-same p (p + w) ns (λ k j. h k (inr j))))
+      (some-same (λ p. chain-from p (p + w) f ns) (λ p. chain-from p (p + w) g ns) (g n)
+      (λ p m. chain-same p (p + w) ns (λ k j. h k (inr j))))
 
   unordered-same : (w : ℕ) (ns : List (List ℕ)) → Alike ns → unordered w f ns ≡ unordered w g ns
   unfolding unordered unordered-at
@@ -63,7 +66,7 @@ module _ (f g : List ℕ → List ℕ) where
       every-same (λ n. leb (mentions n ns) (within p w (f n))) (λ n. leb (mentions n ns) (within p w (g n))) ns (λ n k. rw (h n k))))
 
   pub meets-same : (rule : Rule) (ns : List (List ℕ)) → ((n : List ℕ) → n ∈ ns → f n ≡ g n) → meets rule f ns ≡ meets rule g ns
-  meets-same Phrase ns h = ap some-left (starts-same ns h)
+  meets-same Phrase ns h = ap not-empty (starts-same ns h)
   meets-same (Ordered w) ns h = ordered-same w ns h
   meets-same (Unordered w) ns h = unordered-same w ns h
 

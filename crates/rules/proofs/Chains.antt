@@ -10,11 +10,11 @@ use native.Mathlib.Omega.{arith}
 use lib.Dec.{ltb, leb}
 use lib.ListN.{length, getD}
 use borrow.Author.Tests.{ltb-true, lt-ltb, leb-true, le-leb}
-use Rattle.codec.proofs.Loops.{lt-or-ge, and-left, and-right}
-use Rattle.segment.specs.Elements.{_∈_}
+use Rattle.common.proofs.Loops.{lt-or-ge, and-left, and-right}
+use Rattle.common.specs.Elements.{_∈_}
 use Rattle.rules.specs.Words.{Has-ordered}
 use Rattle.rules.specs.Rules.{chain-from, ordered}
-use Rattle.rules.proofs.Membership.{some-gives, some-from}
+use Rattle.common.proofs.Membership.{some-gives, some-from}
 
 -- steps 1, 2, .. of the names rise from step 0 on, and none is above the last allowed
 pub record Chain (last : ℕ) (own : List ℕ → List ℕ) (ns : List (List ℕ)) (step : ℕ → ℕ) : Type 0 where
@@ -31,7 +31,8 @@ module _ (last : ℕ) (own : List ℕ → List ℕ) where
   abbrev Chained : ℕ → List (List ℕ) → Type 0
   Chained previous ns = (step : ℕ → ℕ) × (step 0 ≡ previous) × Chain last own ns step
 
-  longer : (previous p : ℕ) (n : List ℕ) (ns : List (List ℕ)) → p ∈ own n → previous < p → p ≤ last → Chained p ns → Chained previous (n ∷ ns)
+  longer : (previous p : ℕ) (n : List ℕ) (ns : List (List ℕ)) → p ∈ own n → previous < p → p ≤ last → Chained p ns
+      → Chained previous (n ∷ ns)
   longer previous p n ns m up top (step, e, c) = (pushed previous step, refl, record { on = on; rising = rising; low = low })
     where
       on : (i : ℕ) → i < length (n ∷ ns) → step i ∈ own (getD (n ∷ ns) i [])
@@ -48,8 +49,16 @@ module _ (last : ℕ) (own : List ℕ → List ℕ) where
 
   chained : (previous : ℕ) (ns : List (List ℕ)) → chain-from previous last own ns ≡ true → Chained previous ns
   unfolding chain-from
-  chained previous [] t =
-      (λ i. previous, refl, record { on = λ i h. absurd (not-suc-le-zero h); rising = λ i h. absurd (not-suc-le-zero h); low = λ i h. absurd (not-suc-le-zero h) })
+  chained previous [] t = (
+    λ i. previous,
+    refl,
+    record {
+      on = λ i h. absurd (not-suc-le-zero h);
+      rising = λ i h. absurd (not-suc-le-zero h);
+      low = λ i h. absurd
+          (not-suc-le-zero h);
+    },
+  )
   chained previous (n ∷ ns) t =
       let (p, m, u) = some-gives (λ p. ltb previous p && leb p last && chain-from p last own ns) (own n) t in
       let both = and-left (ltb previous p && leb p last) (chain-from p last own ns) u in
@@ -70,7 +79,8 @@ module _ (last : ℕ) (own : List ℕ → List ℕ) where
         low = λ i h. c .low (suc i) (omega arith);
       })))
 
-  pub chain-is : (previous : ℕ) (ns : List (List ℕ)) → (chain-from previous last own ns ≡ true) ↔ ((step : ℕ → ℕ) × (step 0 ≡ previous) × Chain last own ns step)
+  pub chain-is : (previous : ℕ) (ns : List (List ℕ))
+      → (chain-from previous last own ns ≡ true) ↔ ((step : ℕ → ℕ) × (step 0 ≡ previous) × Chain last own ns step)
   chain-is previous ns = (chained previous ns, λ (step, e, c). rw (← e) (passes step ns c))
 
 -- what rises up to place n is greatest there

@@ -9,15 +9,15 @@ use native.Mathlib.Nat.{not-suc-le-zero}
 use native.Mathlib.Omega.{arith}
 use lib.ListN.{length, getD, length-append}
 use borrow.Author.Tests.{not-true}
-use Rattle.codec.proofs.Loops.{true-false}
+use Rattle.common.proofs.Loops.{true-false}
 use Rattle.segment.specs.Names.{same}
-use Rattle.rules.specs.Members.{kept}
-use Rattle.segment.specs.Elements.{_∈_}
+use Rattle.common.specs.Members.{kept}
+use Rattle.common.specs.Elements.{_∈_}
 use Rattle.rules.specs.Words.{mentions}
 use Rattle.rules.specs.Different.{different}
 use Rattle.segment.proofs.Strings.{same-refl, same-is, apart}
-use Rattle.rules.proofs.Membership.{at-place, kept-gives, kept-from}
-use Rattle.rules.proofs.Kept.{kept-fewer, kept-append}
+use Rattle.common.proofs.Membership.{at-place, kept-gives, kept-from}
+use Rattle.common.proofs.Kept.{kept-fewer, kept-append}
 
 -- the others than a name
 abbrev pub other : List ℕ → List ℕ → Bool

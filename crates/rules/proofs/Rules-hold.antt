@@ -5,7 +5,9 @@ use mathlib.Core.Bool.{Bool, true, false}
 use mathlib.Core.List.{List}
 use Prim.Native.Nat.{ℕ, _<_}
 use lib.ListN.{length}
-use Rattle.rules.specs.Kinds.{Rule, Phrase, Ordered, Unordered, meets, Meets}
+use Rattle.rules.specs.declared.rule.Rule.{Rule}
+use Rattle.rules.specs.declared.rule.Rule.the-variants.{Phrase, Ordered, Unordered}
+use Rattle.rules.specs.Kinds.{meets, Meets}
 use Rattle.rules.specs.Claims as claims
 use Rattle.rules.proofs.Starts.{phrase-is}
 use Rattle.rules.proofs.Chains.{ordered-is}
@@ -17,7 +19,8 @@ rules-agree (Ordered w) own ns h = ordered-is w own ns h
 rules-agree (Unordered w) own ns h = unordered-is own ns w h
 
 -- a test fails where the rule is met by nothing
-pub rules-fail : (rule : Rule) (own : List ℕ → List ℕ) (ns : List (List ℕ)) → 0 < length ns → (Meets rule own ns → ⊥) → meets rule own ns ≡ false
+pub rules-fail : (rule : Rule) (own : List ℕ → List ℕ) (ns : List (List ℕ)) → 0 < length ns → (Meets rule own ns → ⊥)
+    → meets rule own ns ≡ false
 rules-fail rule own ns h none = by-test (meets rule own ns) refl
   where
     by-test : (t : Bool) → meets rule own ns ≡ t → t ≡ false

@@ -8,23 +8,23 @@ use Prim.Native.Nat.{ℕ, zero, suc, _+_, _<_}
 use native.Mathlib.Nat.{add-zero, suc-add, add-suc, not-suc-le-zero, le-of-suc-le-suc}
 use native.Mathlib.Omega.{arith}
 use lib.ListN.{length, getD}
-use Rattle.codec.proofs.Loops.{true-false, and-left, and-right}
-use Rattle.segment.specs.Elements.{_∈_, Rising}
+use Rattle.common.proofs.Loops.{true-false, and-left, and-right}
+use Rattle.common.specs.Elements.{_∈_, Rising}
 use Rattle.rules.specs.Words.{Has-phrase}
-use Rattle.rules.specs.Rules.{has, phrase-at, starts, some-left, phrase}
-use Rattle.rules.proofs.Membership.{has-gives, has-from, kept-gives, kept-from}
-use Rattle.rules.proofs.Rising.{kept-rises}
+use Rattle.rules.specs.Rules.{has, phrase-at, starts, not-empty, phrase}
+use Rattle.common.proofs.Membership.{has-gives, has-from, kept-gives, kept-from}
+use Rattle.common.proofs.Rising.{kept-rises}
 
 -- name i stands on start + i
 abbrev pub Stands-from : ℕ → (List ℕ → List ℕ) → List (List ℕ) → Type 0
 Stands-from start own ns = (i : ℕ) → i < length ns → (start + i) ∈ own (getD ns i [])
 
 -- one start is enough
-first-left : (xs : List ℕ) → some-left xs ≡ true → (x : ℕ) × (x ∈ xs)
+first-left : (xs : List ℕ) → not-empty xs ≡ true → (x : ℕ) × (x ∈ xs)
 first-left [] t = true-false (sym t)
 first-left (x ∷ xs) t = (x, inl refl)
 
-pub left-if : (xs : List ℕ) (x : ℕ) → x ∈ xs → some-left xs ≡ true
+pub left-if : (xs : List ℕ) (x : ℕ) → x ∈ xs → not-empty xs ≡ true
 left-if [] x m = absurd m
 left-if (y ∷ ys) x m = refl
 

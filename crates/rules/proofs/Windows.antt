@@ -9,16 +9,18 @@ use native.Mathlib.Omega.{arith}
 use lib.Dec.{leb}
 use lib.ListN.{length}
 use borrow.Author.Tests.{leb-true, le-leb}
-use Rattle.codec.proofs.Loops.{lt-or-ge, and-left, and-right}
+use Rattle.common.proofs.Loops.{lt-or-ge, and-left, and-right}
 use Rattle.segment.specs.Names.{same}
-use Rattle.rules.specs.Members.{kept, joined}
-use Rattle.segment.specs.Elements.{_∈_}
+use Rattle.common.specs.Members.{kept}
+use Rattle.common.specs.Lists.{joined}
+use Rattle.common.specs.Elements.{_∈_}
 use Rattle.rules.specs.Words.{mentions, within, Has-unordered}
 use Rattle.rules.specs.Rules.{unordered-at, unordered}
 use Rattle.segment.proofs.Strings.{same-refl}
-use Rattle.rules.proofs.Membership.{some-in, in-some, every-gives, every-from, some-gives, some-from, kept-gives, kept-from, joined-gives, joined-from, map-gives}
-use Rattle.segment.proofs.Elements.{map-from}
-use Rattle.rules.proofs.Kept.{kept-more, kept-fewer}
+use Rattle.common.proofs.Membership.{some-in, in-some, every-gives, every-from, some-gives, some-from, kept-gives, kept-from, joined-gives}
+use Rattle.common.proofs.Membership.{joined-from, map-gives}
+use Rattle.common.proofs.Elements.{map-from}
+use Rattle.common.proofs.Kept.{kept-more, kept-fewer}
 
 -- ---- how many positions lie on the steps from a start on
 
@@ -27,7 +29,11 @@ inside start w p = leb start p && leb p (start + w)
 
 inside-is : (start w p : ℕ) → (inside start w p ≡ true) ↔ ((start ≤ p) × (p ≤ start + w))
 inside-is start w p = (
-  λ t. (leb-true start p (and-left (leb start p) (leb p (start + w)) t), leb-true p (start + w) (and-right (leb start p) (leb p (start + w)) t)),
+  λ t. (
+    leb-true start p (and-left (leb start p) (leb p (start + w)) t),
+    leb-true p (start + w)
+        (and-right (leb start p) (leb p (start + w)) t),
+  ),
   λ h. rw (le-leb start p (h .0), le-leb p (start + w) (h .1)),
 )
 
@@ -115,7 +121,8 @@ module _ (own : List ℕ → List ℕ) (ns : List (List ℕ)) where
     unfolding unordered-at
     unordered-at-is start = (
       λ t n m. leb-true (mentions n ns) (within start w (own n)) (every-gives (λ n. leb (mentions n ns) (within start w (own n))) ns t n m),
-      λ h. every-from (λ n. leb (mentions n ns) (within start w (own n))) ns (λ n m. le-leb (mentions n ns) (within start w (own n)) (h n m)),
+      λ h. every-from (λ n. leb (mentions n ns) (within start w (own n))) ns
+          (λ n m. le-leb (mentions n ns) (within start w (own n)) (h n m)),
     )
 
     -- a start that holds the names may be moved on to the next position

@@ -1,16 +1,17 @@
 -- What may be asked: a rule, met as a test or in words, and which questions are put at all.
 use Prim.Native.Nat.{ℕ, _≤_}
-use mathlib.Core.Bool.{Bool, _||_}
+use mathlib.Core.Bool.{Bool, true, false, _||_}
 use mathlib.Core.List.{List}
 use lib.Dec.{eqb, ltb}
+use Rattle.rules.specs.declared.rule.Rule.{Rule}
+use Rattle.rules.specs.declared.rule.Rule.the-variants.{Phrase, Ordered, Unordered}
 use Rattle.rules.specs.Words.{Has-phrase, Has-ordered, Has-unordered}
 use Rattle.rules.specs.Rules.{phrase, ordered, unordered}
 
--- what is asked: a phrase, or that terms stand near one another, in the order named or in any
-pub data Rule : Type 0 where
-  Phrase : Rule
-  Ordered : (window : ℕ) → Rule
-  Unordered : (window : ℕ) → Rule
+-- near, in the order named or in any
+abbrev pub near-rule : Bool → ℕ → Rule
+near-rule true w = Ordered w
+near-rule false w = Unordered w
 
 -- a document meets the rule: as a test, and in words
 abbrev pub meets : Rule → (own : List ℕ → List ℕ) → List (List ℕ) → Bool

@@ -1,8 +1,7 @@
--- The rules in one document. What a reader must believe, in the order to read it:
-pub mod Members
+-- What a reader must believe, in the order to read it:
 pub mod Words
 pub mod Rules
 pub mod Kinds
 pub mod Different
--- What is claimed of it:
+-- What is claimed of the definitions:
 pub mod Claims

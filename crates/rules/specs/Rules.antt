@@ -3,14 +3,15 @@ use Prim.Native.Nat.{ℕ, suc, _+_}
 use mathlib.Core.Bool.{Bool, true, false, _&&_}
 use mathlib.Core.List.{List, [], _∷_, map}
 use lib.Dec.{eqb, ltb, leb}
-use Rattle.rules.specs.Members.{every, some-of, kept, joined}
+use Rattle.common.specs.Members.{every, some-of, kept}
+use Rattle.common.specs.Lists.{joined}
 use Rattle.rules.specs.Words.{mentions, within}
 
 -- a position is among the positions
 abbrev pub has : List ℕ → ℕ → Bool
 has positions p = some-of (eqb p) positions
 
--- the names stand on consecutive positions from start on
+-- the names have consecutive positions from start on
 unfoldable pub phrase-at : (start : ℕ) (own : List ℕ → List ℕ) → List (List ℕ) → Bool
 phrase-at start own [] = true
 phrase-at start own (n ∷ names) = has (own n) start && phrase-at (suc start) own names
@@ -20,12 +21,12 @@ unfoldable pub starts : (own : List ℕ → List ℕ) → List (List ℕ) → Li
 starts own [] = []
 starts own (n ∷ names) = kept (λ start. phrase-at start own (n ∷ names)) (own n)
 
-abbrev pub some-left : {A : Type 0} → List A → Bool
-some-left [] = false
-some-left (x ∷ xs) = true
+abbrev pub not-empty : {A : Type 0} → List A → Bool
+not-empty [] = false
+not-empty (x ∷ xs) = true
 
 abbrev pub phrase : (own : List ℕ → List ℕ) → List (List ℕ) → Bool
-phrase own names = some-left (starts own names)
+phrase own names = not-empty (starts own names)
 
 -- each further name has a position above the one before, and not above the last allowed
 unfoldable pub chain-from : (previous last : ℕ) (own : List ℕ → List ℕ) → List (List ℕ) → Bool

@@ -6,8 +6,8 @@ use mathlib.Core.List.{List, []}
 use lib.Dec.{leb}
 use lib.ListN.{length, getD}
 use Rattle.segment.specs.Names.{same}
-use Rattle.rules.specs.Members.{kept}
-use Rattle.segment.specs.Elements.{_∈_}
+use Rattle.common.specs.Members.{kept}
+use Rattle.common.specs.Elements.{_∈_}
 
 -- phrase: some start has sound i on start + i
 pub record Has-phrase (own : List ℕ → List ℕ) (names : List (List ℕ)) : Type 0 where

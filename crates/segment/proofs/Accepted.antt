@@ -11,7 +11,7 @@ use Rattle.segment.specs.declared.refusal.Refusal.{Refusal}
 use Rattle.segment.specs.declared.checked.Checked.{Checked}
 use Rattle.segment.specs.declared.checked.Checked.the-variants.{Passed, Refused}
 use Rattle.segment.specs.Results.{Result, ok, refuse, _>>=_, check}
-use Rattle.segment.specs.Answers.{earlier, checked}
+use Rattle.segment.specs.Steps.{earlier, checked}
 use Rattle.segment.proofs.Binds.{refuse-ok}
 
 pub check-gives : {B : Type 0} (t : Bool) (x : Refusal) (f : Unit {0} → Result B) {b : B} → check t x >>= f ≡ ok b
@@ -33,7 +33,8 @@ pub stops : {A B : Type 0} (r : Result A) (f : A → Result B) {x : Refusal} →
 stops (ok a) f e = let z : _≡_ {A = ℕ} 0 1 = cc in absurd (omega arith)
 stops (refuse y) f e = e
 
-pub goes : {B : Type 0} (r : Result (Unit {0})) (f : Unit {0} → Result B) {c : Checked} → Passed ≡ checked r → c ≡ checked (f tt) → c ≡ checked (r >>= f)
+pub goes : {B : Type 0} (r : Result (Unit {0})) (f : Unit {0} → Result B) {c : Checked} → Passed ≡ checked r → c ≡ checked (f tt)
+    → c ≡ checked (r >>= f)
 goes (ok a) f e h = h
 goes (refuse x) f e h = let z : _≡_ {A = ℕ} 0 1 = cc in absurd (omega arith)
 

@@ -7,7 +7,7 @@ use Prim.Native.Nat.{ℕ, _+_, _≤_, _<_}
 use lib.Dec.{leb, eqb}
 use lib.ListN.{length, drop, getD}
 use borrow.Author.Tests.{le-leb, lt-leb}
-use Rattle.codec.proofs.Loops.{drop-step, drop-end}
+use Rattle.common.proofs.Loops.{drop-step, drop-end}
 use Rattle.segment.specs.Texts.{ends-fit}
 
 module _ (ends : List ℕ) (i from n : ℕ) {whole : Bool} (inv : ends-fit from (drop i ends) n ≡ whole) where

@@ -9,7 +9,7 @@ use native.Mathlib.Omega.{arith}
 use lib.Dec.{leb}
 use lib.ListN.{length, drop, getD}
 use borrow.Author.Tests.{leb-true, le-leb, eqb-true, eq-eqb}
-use Rattle.codec.proofs.Loops.{and-left, and-right}
+use Rattle.common.proofs.Loops.{and-left, and-right}
 use Rattle.segment.specs.Texts.{Text-shape, ends-fit, names}
 use Rattle.segment.specs.Claims.{Shape-agrees}
 

@@ -11,11 +11,11 @@ use lib.Dec.{ltb, eqb}
 use lib.ListN.{length, take, drop, getD, length-take}
 use lib.Seq.{getD-take, ext-getD}
 use borrow.Author.Tests.{ltb-true, ltb-false, eqb-true, eqb-false, lt-ltb, le-ltb, eq-eqb, ne-eqb}
-use Rattle.codec.proofs.Loops.{true-false, and-left, and-right, drop-step, drop-end}
+use Rattle.common.proofs.Loops.{true-false, and-left, and-right, drop-step, drop-end}
 use Rattle.segment.specs.declared.names.Order.{Order}
 use Rattle.segment.specs.declared.names.Order.the-variants.{Less, Equal, Greater}
 use Rattle.segment.specs.Names.{same, precedes, Before}
-use Rattle.segment.specs.Orders.{order}
+use Rattle.segment.specs.Steps.{order}
 use Rattle.segment.specs.Claims.{Same-agrees, Order-agrees}
 
 -- ---- the same
@@ -72,7 +72,7 @@ after-common (z ∷ c) x y xs ys h = level z _ ∙ after-common c x y xs ys h
 
 from-words : (a b : List ℕ) → Before a b → precedes a b ≡ true
 from-words a b (inl w) = rw (w .whole) (beginning a (w .next) (w .rest))
-from-words a b (inr w) = rw (w .left, w .right) (after-common (w .common) (w .x) (w .y) (w .xs) (w .ys) (w .less))
+from-words a b (inr w) = rw (w .of-a, w .of-b) (after-common (w .common) (w .x) (w .y) (w .xs) (w .ys) (w .less))
 
 -- a common first byte in front of both
 in-front : (x y : ℕ) (a b : List ℕ) → x ≡ y → Before a b → Before (x ∷ a) (y ∷ b)
@@ -84,8 +84,8 @@ in-front x y a b e (inr w) =
       y = w .y;
       xs = w .xs;
       ys = w .ys;
-      left = ap (λ l. x ∷ l) (w .left);
-      right = ap₂ _∷_ (sym e) (w .right);
+      of-a = ap (λ l. x ∷ l) (w .of-a);
+      of-b = ap₂ _∷_ (sym e) (w .of-b);
       less = w .less;
     })
 
@@ -96,7 +96,7 @@ in-words [] (y ∷ b) e = inl (record { next = y; rest = b; whole = refl })
 in-words (x ∷ a) [] e = true-false (sym e)
 in-words (x ∷ a) (y ∷ b) e =
     ⊎-elim
-    (λ (h : x < y). inr (record { common = []; x = x; y = y; xs = a; ys = b; left = refl; right = refl; less = h }))
+    (λ (h : x < y). inr (record { common = []; x = x; y = y; xs = a; ys = b; of-a = refl; of-b = refl; less = h }))
     (λ (h : (x ≡ y) × (precedes a b ≡ true)). in-front x y a b (h .0) (in-words a b (h .1)))
     (by-byte x y (precedes a b) e)
 
@@ -179,7 +179,13 @@ module _ (a b : List ℕ) (i : ℕ) {whole : Order} (inv : order (drop i a) (dro
   pub order-greater : i < length a → i < length b → getD b i 0 < getD a i 0 → Greater ≡ whole
   unfolding precedes same
   order-greater h k l =
-      rw (drop-step a i 0 h, drop-step b i 0 k, le-ltb (getD a i 0) (getD b i 0) (omega arith), ne-eqb (getD a i 0) (getD b i 0) (omega arith)) at inv
+      rw (
+        drop-step a i 0 h,
+        drop-step b i 0 k,
+        le-ltb (getD a i 0) (getD b i 0) (omega arith),
+        ne-eqb (getD a i 0) (getD b i 0)
+            (omega arith),
+      ) at inv
 
   pub order-next : i < length a → i < length b → getD a i 0 ≡ getD b i 0 → order (drop (i + 1) a) (drop (i + 1) b) ≡ whole
   unfolding precedes same

@@ -5,10 +5,11 @@ use mathlib.Core.List.{List, [], _∷_}
 use mathlib.Core.Option.{Option, none, some}
 use lib.Dec.{ltb, leb, eqb}
 use lib.ListN.{length, take, drop}
-use Rattle.encoding.specs.Utf8.{utf8}
-use Rattle.segment.specs.Refusals.{postings, term-bytes, truncated, invalid-utf8, invalid-layout, section-range-overflow, directory-length-mismatch, empty-term, non-increasing-term, empty-term-posting-list}
+use Rattle.utf8.specs.Utf8.{utf8}
+use Rattle.segment.specs.Refusals.{postings, term-bytes, truncated, invalid-utf8, invalid-layout, section-range-overflow}
+use Rattle.segment.specs.Refusals.{directory-length-mismatch, empty-term, non-increasing-term, empty-term-posting-list}
 use Rattle.segment.specs.Results.{Result, ok, refuse, _>>=_, check}
-use Rattle.segment.specs.Records.{Entry, field}
+use Rattle.segment.specs.Records.{Entry, field, entry-size}
 use Rattle.segment.specs.Names.{same, precedes}
 
 -- n bytes of a section from a place on: the end is a number of 64 bits, and it lies within the section
@@ -44,13 +45,13 @@ unfoldable pub read-entries : (count : ℕ) (previous : Option (List ℕ)) (dire
 read-entries zero previous directory names lists = ok []
 read-entries (suc n) previous directory names lists = do
   e ← read-entry previous directory names lists
-  more ← read-entries n (some (e .name)) (drop 32 directory) names lists
+  more ← read-entries n (some (e .name)) (drop entry-size directory) names lists
   ok (e ∷ more)
 
 -- the whole section: 32 bytes for each term, then each entry
 unfoldable pub directory : (count : ℕ) (bytes names lists : List ℕ) → Result (List Entry)
 directory count bytes names lists = do
-  _ ← check (eqb (length bytes) (32 * count)) (invalid-layout directory-length-mismatch)
+  _ ← check (eqb (length bytes) (entry-size * count)) (invalid-layout directory-length-mismatch)
   read-entries count none bytes names lists
 
 -- the entry of a name, or none where no term has it

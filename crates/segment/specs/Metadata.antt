@@ -1,11 +1,13 @@
--- Document metadata: per document an id gap and a length. Its checks in document 01's order: both numbers, overflow, order; at the end trailing bytes.
+-- Document metadata: per document an id gap and a length. Its checks in document 01's order: both numbers, overflow, order; at the end
+-- trailing bytes.
 use Prim.Native.Nat.{ℕ, zero, suc, _^_}
 use mathlib.Core.Bool.{cond}
 use mathlib.Core.List.{List, [], _∷_}
 use mathlib.Core.Option.{Option, none, some}
 use lib.Dec.{ltb, eqb}
 use lib.ListN.{length}
-use Rattle.segment.specs.Refusals.{document-metadata, doc-id-overflow, invalid-layout, non-increasing-document-id, trailing-document-metadata}
+use Rattle.segment.specs.Refusals.{document-metadata, doc-id-overflow, invalid-layout, non-increasing-document-id}
+use Rattle.segment.specs.Refusals.{trailing-document-metadata}
 use Rattle.segment.specs.Results.{Result, ok, refuse, _>>=_, check}
 use Rattle.segment.specs.Records.{Document, Read, number, at-gap, rises}
 

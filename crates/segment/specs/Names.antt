@@ -32,8 +32,8 @@ pub record Lower (a b : List ℕ) : Type 0 where
   pub y : ℕ
   pub xs : List ℕ
   pub ys : List ℕ
-  pub left : a ≡ common ++ (x ∷ xs)
-  pub right : b ≡ common ++ (y ∷ ys)
+  pub of-a : a ≡ common ++ (x ∷ xs)
+  pub of-b : b ≡ common ++ (y ∷ ys)
   pub less : x < y
 
 abbrev pub Before : List ℕ → List ℕ → Type 0

@@ -3,10 +3,11 @@ use Prim.Native.Nat.{ℕ, _+_}
 use mathlib.Core.List.{List, [], _∷_}
 use lib.Dec.{leb, eqb}
 use lib.ListN.{length, take}
-use Rattle.checksum.specs.Crc32.{crc32Of}
-use Rattle.segment.specs.Refusals.{header, term-directory, term-bytes, document-metadata, postings, truncated, invalid-magic, unsupported-version, unsupported-flags, checksum-mismatch, invalid-layout, trailing-bytes}
+use Rattle.crc32.specs.Crc32.{crc32Of}
+use Rattle.segment.specs.Refusals.{header, term-directory, term-bytes, document-metadata, postings, truncated, invalid-magic}
+use Rattle.segment.specs.Refusals.{unsupported-version, unsupported-flags, checksum-mismatch, invalid-layout, trailing-bytes}
 use Rattle.segment.specs.Results.{Result, ok, refuse, _>>=_, check}
-use Rattle.segment.specs.Records.{Segment, field}
+use Rattle.segment.specs.Records.{Segment, field, header-size}
 use Rattle.segment.specs.Names.{same}
 use Rattle.segment.specs.Metadata.{metadata}
 use Rattle.segment.specs.Directory.{part, directory}
@@ -24,15 +25,16 @@ pub record Sections : Type 0 where
   pub metadata : List ℕ
   pub lists : List ℕ
 
--- The header is magic; u32 version 2, flags 0, document count, term count; u64 lengths of directory, term bytes, metadata, postings; u32 checksums of
--- the same four: 72 bytes. The four sections follow in that order and end the segment.
+-- The header is magic; u32 version 2, flags 0, document count, term count; u64 lengths of directory, term bytes, metadata, postings;
+-- u32 checksums of the same four: 72 bytes. The four sections follow in that order and end the segment.
 unfoldable pub ranges : List ℕ → Result Sections
 ranges bytes = do
-  dir ← part term-directory 72 (field 8 24 bytes) bytes
-  names ← part term-bytes (72 + field 8 24 bytes) (field 8 32 bytes) bytes
-  metadata ← part document-metadata (72 + field 8 24 bytes + field 8 32 bytes) (field 8 40 bytes) bytes
-  lists ← part postings (72 + field 8 24 bytes + field 8 32 bytes + field 8 40 bytes) (field 8 48 bytes) bytes
-  _ ← check (eqb (72 + field 8 24 bytes + field 8 32 bytes + field 8 40 bytes + field 8 48 bytes) (length bytes)) (invalid-layout trailing-bytes)
+  dir ← part term-directory header-size (field 8 24 bytes) bytes
+  names ← part term-bytes (header-size + field 8 24 bytes) (field 8 32 bytes) bytes
+  metadata ← part document-metadata (header-size + field 8 24 bytes + field 8 32 bytes) (field 8 40 bytes) bytes
+  lists ← part postings (header-size + field 8 24 bytes + field 8 32 bytes + field 8 40 bytes) (field 8 48 bytes) bytes
+  _ ← check (eqb (header-size + field 8 24 bytes + field 8 32 bytes + field 8 40 bytes + field 8 48 bytes) (length bytes))
+      (invalid-layout trailing-bytes)
   ok (record {
     documents = field 4 16 bytes;
     terms = field 4 20 bytes;
@@ -44,7 +46,7 @@ ranges bytes = do
 
 unfoldable pub sections : List ℕ → Result Sections
 sections bytes = do
-  _ ← check (leb 72 (length bytes)) (truncated header)
+  _ ← check (leb header-size (length bytes)) (truncated header)
   _ ← check (same (take 8 bytes) magic) invalid-magic
   _ ← check (eqb (field 4 8 bytes) 2) (unsupported-version (field 4 8 bytes))
   _ ← check (eqb (field 4 12 bytes) 0) (unsupported-flags (field 4 12 bytes))

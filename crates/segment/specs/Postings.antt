@@ -2,13 +2,14 @@
 -- per position the number, overflow, order, length; at the end trailing bytes.
 use Prim.Native.Nat.{ℕ, zero, suc, _+_, _^_}
 use mathlib.Core.List.{List, [], _∷_}
-use mathlib.Core.Bool.{cond}
 use mathlib.Core.Option.{Option, none, some}
 use lib.Dec.{ltb, eqb}
 use lib.ListN.{length}
-use Rattle.checksum.specs.Crc32.{crc32Of}
+use Rattle.crc32.specs.Crc32.{crc32Of}
 use Rattle.segment.specs.declared.refusal.Refusal.{Refusal}
-use Rattle.segment.specs.Refusals.{postings, term-postings, checksum-mismatch, doc-id-overflow, position-overflow, invalid-layout, non-increasing-posting-id, unknown-document, empty-position-list, non-increasing-position, position-exceeds-length, trailing-posting-bytes}
+use Rattle.segment.specs.Refusals.{postings, term-postings, checksum-mismatch, doc-id-overflow, position-overflow, invalid-layout}
+use Rattle.segment.specs.Refusals.{non-increasing-posting-id, unknown-document, empty-position-list, non-increasing-position}
+use Rattle.segment.specs.Refusals.{position-exceeds-length, trailing-posting-bytes}
 use Rattle.segment.specs.Results.{Result, ok, refuse, _>>=_, check}
 use Rattle.segment.specs.Records.{Document, Posting, Entry, Read, number, at-gap, rises}
 use Rattle.segment.specs.Metadata.{length-of}
@@ -60,7 +61,8 @@ read-posting place documents previous bytes = do
   all ← read-positions (head .got .count) place (head .got .len) none (head .rest)
   ok (record { got = record { doc = head .got .doc; positions = all .got }; rest = all .rest })
 
-unfoldable pub read-postings : (count place : ℕ) (documents : List Document) (previous : Option ℕ) (bytes : List ℕ) → Result (Read (List Posting))
+unfoldable pub read-postings : (count place : ℕ) (documents : List Document) (previous : Option ℕ) (bytes : List ℕ)
+    → Result (Read (List Posting))
 read-postings zero place documents previous bytes = ok (record { got = []; rest = bytes })
 read-postings (suc n) place documents previous bytes = do
   p ← read-posting place documents previous bytes

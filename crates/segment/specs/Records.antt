@@ -5,7 +5,7 @@ use mathlib.Core.List.{List, [], _∷_}
 use mathlib.Core.Option.{Option, none, some}
 use lib.Dec.{ltb}
 use lib.ListN.{take, drop}
-use Rattle.codec.specs.Leb128.{Leb, stored}
+use Rattle.leb128.specs.Leb128.{Leb, stored}
 use Rattle.segment.specs.Refusals.{invalid-varint}
 use Rattle.segment.specs.Results.{Result, ok, refuse}
 
@@ -42,6 +42,14 @@ pub record Segment : Type 0 where
   pub entries : List Entry
 
 -- ---- parts of the bytes
+
+-- the header has 72 bytes
+abbrev pub header-size : ℕ
+header-size = 72
+
+-- a directory entry has 32 bytes
+abbrev pub entry-size : ℕ
+entry-size = 32
 
 -- the bytes from a place up to another
 abbrev pub between : ℕ → ℕ → List ℕ → List ℕ
@@ -83,3 +91,8 @@ at-gap (some p) g = p + g
 abbrev pub rises : Option ℕ → ℕ → Bool
 rises none v = true
 rises (some p) v = ltb p v
+
+-- the gap to a value: the first gap is the value itself
+abbrev pub gap : Option ℕ → ℕ → ℕ
+gap none v = v
+gap (some p) v = v - p

@@ -1,4 +1,4 @@
--- Document 01's refusals: kind, which, index. Every number stands here once.
+-- Document 01's refusals: kind, which, index. Every number is here, once.
 use Prim.Native.Nat.{ℕ}
 use Rattle.segment.specs.declared.refusal.Refusal.{Refusal}
 

@@ -10,12 +10,12 @@ pub data Result (A : Type 0) : Type 0 where
   refuse : Refusal → Result A
 
 infixl 10 _>>=_
--- on with the value, or out with the refusal
+-- continue with the value, or return the refusal
 abbrev pub _>>=_ : {A B : Type 0} → Result A → (A → Result B) → Result B
 ok a >>= f = f a
 refuse x >>= f = refuse x
 
--- on where the test passes, else the refusal
+-- continue where the test passes, else return the refusal
 abbrev pub check : Bool → Refusal → Result (Unit {0})
 check true x = ok tt
 check false x = refuse x

@@ -1,3 +1,4 @@
+// What a check answers.
 use crate::refusal::Refusal;
 
 // What a part that was checked answers.

@@ -1,15 +1,17 @@
-// The segment format (document 01): what a segment holds, and a refusal for every fault. Read in this order:
-//   refusal    the three numbers of a refusal
+// The segment format (document 01), read and written form side by side. specs/ is the place to start: it defines the whole format. The code
+// here is what every crate above shares. Read in this order:
+//   refusal    the three numbers of a refusal, and a constructor for each kind
+//   replies    what the calls answer
 //   checked    passed, or a refusal
 //   ids        document ids and token positions, two types that do not mix
 //   fixed      numbers of fixed width, little-endian
-//   names      byte strings: the same, the order
+//   names      equality and byte order of names
 //   texts      several names in one text
-// What each is to compute stands in specs/, which is the place to start; the whole format is defined there. Documents and posting lists
-// are read by crate decoding, the header and the directory by crate opening.
+// Crates read_lists and read_open check a segment's bytes, crates write_* write them.
 pub mod checked;
 pub mod fixed;
 pub mod ids;
 pub mod names;
 pub mod refusal;
+pub mod replies;
 pub mod texts;

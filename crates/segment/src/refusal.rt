@@ -1,5 +1,10 @@
 // A refusal is three numbers (document 01): kind, which, index. What the source's Error does not carry is 0.
-// specs/Refusals.antt has every number in one place.
+// specs/Refusals.antt has every number, and what each constructor below makes of them.
+ghost use mathlib.Core.Path.{_≡_};
+ghost use Rattle.segment.specs.Refusals.{truncated, invalid-magic, unsupported-version, unsupported-flags, checksum-mismatch};
+ghost use Rattle.segment.specs.Refusals.{invalid-layout, invalid-varint, doc-id-overflow, position-overflow, invalid-utf8};
+ghost use Rattle.segment.specs.Refusals.{list-shape, too-large, no-room};
+
 pub struct Refusal {
     pub kind: u32,
     pub which: u32,
@@ -90,5 +95,148 @@ pub const POSITIONS_NOT_INCREASING: u32 = 20;
 
 pub const WRITTEN_POSITION_EXCEEDS_LENGTH: u32 = 21;
 
-// A list or text handed in has at most so many elements.
+// The largest number of elements of a list or text handed in.
 pub const LIMIT: usize = 16777216;
+
+// Kind 1: the bytes end inside a section.
+pub fn truncated(section: u32) -> Refusal
+    ensures { λ r. ⌜ r ≡ truncated section ⌝ }
+{
+    Refusal {
+        kind: TRUNCATED,
+        which: section,
+        index: 0,
+    }
+}
+
+// Kind 2.
+pub fn invalid_magic() -> Refusal
+    ensures { λ r. ⌜ r ≡ invalid-magic ⌝ }
+{
+    Refusal {
+        kind: INVALID_MAGIC,
+        which: 0,
+        index: 0,
+    }
+}
+
+// Kind 3, with the version found.
+pub fn unsupported_version(value: u32) -> Refusal
+    ensures { λ r. ⌜ r ≡ unsupported-version value ⌝ }
+{
+    Refusal {
+        kind: UNSUPPORTED_VERSION,
+        which: 0,
+        index: value as u64,
+    }
+}
+
+// Kind 4, with the flags found.
+pub fn unsupported_flags(value: u32) -> Refusal
+    ensures { λ r. ⌜ r ≡ unsupported-flags value ⌝ }
+{
+    Refusal {
+        kind: UNSUPPORTED_FLAGS,
+        which: 0,
+        index: value as u64,
+    }
+}
+
+// Kind 5.
+pub fn checksum_mismatch(section: u32) -> Refusal
+    ensures { λ r. ⌜ r ≡ checksum-mismatch section ⌝ }
+{
+    Refusal {
+        kind: CHECKSUM_MISMATCH,
+        which: section,
+        index: 0,
+    }
+}
+
+// Kind 6, with its reason.
+pub fn invalid_layout(reason: u32) -> Refusal
+    ensures { λ r. ⌜ r ≡ invalid-layout reason ⌝ }
+{
+    Refusal {
+        kind: INVALID_LAYOUT,
+        which: reason,
+        index: 0,
+    }
+}
+
+// Kind 7: no number that document 01 stores.
+pub fn invalid_varint(section: u32, index: u64) -> Refusal
+    ensures { λ r. ⌜ r ≡ invalid-varint section index ⌝ }
+{
+    Refusal {
+        kind: INVALID_VARINT,
+        which: section,
+        index: index,
+    }
+}
+
+// Kind 8.
+pub fn doc_id_overflow(index: u64) -> Refusal
+    ensures { λ r. ⌜ r ≡ doc-id-overflow index ⌝ }
+{
+    Refusal {
+        kind: DOC_ID_OVERFLOW,
+        which: 0,
+        index: index,
+    }
+}
+
+// Kind 9.
+pub fn position_overflow(index: u64) -> Refusal
+    ensures { λ r. ⌜ r ≡ position-overflow index ⌝ }
+{
+    Refusal {
+        kind: POSITION_OVERFLOW,
+        which: 0,
+        index: index,
+    }
+}
+
+// Kind 10.
+pub fn invalid_utf8() -> Refusal
+    ensures { λ r. ⌜ r ≡ invalid-utf8 ⌝ }
+{
+    Refusal {
+        kind: INVALID_UTF8,
+        which: 0,
+        index: 0,
+    }
+}
+
+// Kind 11.
+pub fn list_shape() -> Refusal
+    ensures { λ r. ⌜ r ≡ list-shape ⌝ }
+{
+    Refusal {
+        kind: LIST_SHAPE,
+        which: 0,
+        index: 0,
+    }
+}
+
+// Kind 12.
+pub fn too_large() -> Refusal
+    ensures { λ r. ⌜ r ≡ too-large ⌝ }
+{
+    Refusal {
+        kind: TOO_LARGE,
+        which: 0,
+        index: 0,
+    }
+}
+
+// Kind 13: the lent buffer, counted from 1, and the length needed.
+pub fn no_room(buffer: u32, needed: usize) -> Refusal
+    ensures { λ r. ⌜ r ≡ no-room buffer needed ⌝ }
+{
+    Refusal {
+        kind: NO_ROOM,
+        which: buffer,
+        index: needed as u64,
+    }
+}

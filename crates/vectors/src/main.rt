@@ -1,12 +1,12 @@
-// Published vectors, run one by one. What each must give stands in the file stdout, written from the publications and not from a run;
+// Published vectors, run one by one. The file stdout has what each must give, written from the publications and not from a run;
 // the checksums of messages that were published for another digest are zlib's.
-use checksum::crc32::crc32;
-use codec::varint::Decoded;
-use codec::varint::Reader;
-use codec::varint::encode_u32;
-use codec::varint::encoded_len;
-use encoding::utf8::is_utf8;
+use crc32::checksum::crc32;
+use leb128::varint::Decoded;
+use leb128::varint::Reader;
+use leb128::varint::encode_u32;
+use leb128::varint::encoded_len;
 use libc::STDOUT_FILENO;
+use utf8::characters::is_utf8;
 ghost use Prim.Native.Nat.{_≤_};
 ghost use lib.ListN.{length};
 

@@ -1,6 +1,6 @@
 use mathlib.Core.Path.{sym, _∙_, ap}
-use Rattle.pstp.specs.Replies.{opened-reply}
 use borrow.Author.Needs.{needs}
+use Rattle.pstp.specs.Promise.{opened-reply}
 use Rattle.pstp.proofs.read.pstp_open.Statement.{statement}
 use Rattle.pstp.proofs.read.pstp_open.Tie as tie
 

@@ -1,6 +1,6 @@
 use mathlib.Core.Path.{sym, _∙_, ap}
-use Rattle.pstp.specs.Replies.{counted-reply}
 use borrow.Author.Needs.{needs}
+use Rattle.pstp.specs.Promise.{counted-reply}
 use Rattle.pstp.proofs.reply.of_counted.Statement.{statement}
 use Rattle.pstp.proofs.reply.of_counted.Tie as tie
 

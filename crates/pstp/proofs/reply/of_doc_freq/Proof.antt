@@ -1,6 +1,6 @@
 use mathlib.Core.Path.{sym, _∙_, ap}
-use Rattle.pstp.specs.Replies.{frequency-reply}
 use borrow.Author.Needs.{needs}
+use Rattle.pstp.specs.Promise.{frequency-reply}
 use Rattle.pstp.proofs.reply.of_doc_freq.Statement.{statement}
 use Rattle.pstp.proofs.reply.of_doc_freq.Tie as tie
 

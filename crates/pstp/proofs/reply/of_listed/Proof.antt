@@ -1,6 +1,6 @@
 use mathlib.Core.Path.{sym, _∙_, ap}
-use Rattle.pstp.specs.Replies.{listed-reply}
 use borrow.Author.Needs.{needs}
+use Rattle.pstp.specs.Promise.{listed-reply}
 use Rattle.pstp.proofs.reply.of_listed.Statement.{statement}
 use Rattle.pstp.proofs.reply.of_listed.Tie as tie
 

@@ -1,6 +1,6 @@
 use mathlib.Core.Path.{sym, _∙_, ap}
-use Rattle.pstp.specs.Replies.{written-reply}
 use borrow.Author.Needs.{needs}
+use Rattle.pstp.specs.Promise.{written-reply}
 use Rattle.pstp.proofs.reply.of_written.Statement.{statement}
 use Rattle.pstp.proofs.reply.of_written.Tie as tie
 

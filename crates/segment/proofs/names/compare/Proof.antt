@@ -2,10 +2,10 @@ use native.Mathlib.Nat.{le-antisymm}
 use mathlib.Core.Path.{_≡_, refl}
 use Prim.Native.Nat.{_-_, _≤_}
 use lib.ListN.{length, drop}
-use Rattle.segment.specs.Orders.{order}
-use Rattle.segment.proofs.Strings.{order-long, order-short, order-end, order-less, order-greater, order-next}
 use borrow.Author.Needs.{needs}
 use native.Mathlib.Omega.{arith}
+use Rattle.segment.specs.Steps.{order}
+use Rattle.segment.proofs.Strings.{order-long, order-short, order-end, order-less, order-greater, order-next}
 use Rattle.segment.proofs.names.compare.Statement.{statement}
 use Rattle.segment.proofs.names.compare.Tie as tie
 
@@ -49,7 +49,8 @@ loop-again c =
     let b = c .before .before .before .before in (
       omega arith,
       omega arith,
-      order-next _ _ _ (b .before .before .loop .inv .2) (b .before .loop-test .taken) (b .if1 .left) (le-antisymm (c .if3 .left) (c .before .if2 .left)),
+      order-next _ _ _ (b .before .before .loop .inv .2) (b .before .loop-test .taken) (b .if1 .left)
+          (le-antisymm (c .if3 .left) (c .before .if2 .left)),
     )
 
 returns-4 : tie.Need-returns-4 Inv-loop μ-loop

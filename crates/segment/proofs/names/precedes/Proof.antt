@@ -1,6 +1,6 @@
 use mathlib.Core.Path.{sym, _∙_}
-use Rattle.segment.proofs.Strings.{less-is, equal-is, greater-is}
 use borrow.Author.Needs.{needs}
+use Rattle.segment.proofs.Strings.{less-is, equal-is, greater-is}
 use Rattle.segment.proofs.names.precedes.Statement.{statement}
 use Rattle.segment.proofs.names.precedes.Tie as tie
 

@@ -3,9 +3,9 @@ use mathlib.Core.Path.{_≡_}
 use Prim.Native.Nat.{ℕ, _-_, _≤_, _<_}
 use lib.ListN.{length, getD}
 use borrow.Author.Count.{below-none, below-more}
-use Rattle.segment.proofs.Strings.{begins, begins-short, begins-not}
 use borrow.Author.Needs.{needs}
 use native.Mathlib.Omega.{arith}
+use Rattle.segment.proofs.Strings.{begins, begins-short, begins-not}
 use Rattle.segment.proofs.names.starts_with.Statement.{statement}
 use Rattle.segment.proofs.names.starts_with.Tie as tie
 

@@ -1,0 +1,62 @@
+-- The rules over cursors: `cs` are the cursors, one for each name by its index (or one for each different name).
+use Prim.Native.Nat.{ℕ, _+_, _^_, _≤_, _<_}
+use mathlib.Core.Path.{_≡_}
+use mathlib.Core.Bool.{Bool, true, false}
+use mathlib.Core.List.{List}
+use lib.ListN.{length, getD}
+use Rattle.read_cursors.specs.declared.positions.Positions.{Positions}
+use Rattle.common.specs.Elements.{_∈_}
+use Rattle.read_cursors.specs.Held.{seek-in}
+use Rattle.read_cursors.specs.Steps.{positions-from}
+use Rattle.rules.specs.Words.{within}
+use Rattle.ask_match.specs.declared.pass.Moved.{Moved}
+
+abbrev pub no-positions : Positions
+no-positions = record { at = 0; remaining = 0; pos = record { 0 = 0 } }
+
+-- the positions of the cursor with index j
+abbrev pub at-place : (bytes : List ℕ) (cs : List Positions) (j : ℕ) → List ℕ
+at-place bytes cs j = positions-from bytes (getD cs j no-positions)
+
+pub record Passed (bytes : List ℕ) (target : ℕ) (c : Positions) (r : Moved) : Type 0 where
+  pub holds : positions-from bytes (r .to) ≡ seek-in (λ (p : ℕ). p) target (positions-from bytes c)
+  pub reached : 0 < r .to .remaining → target ≤ r .to .pos .0
+  pub count : r .passed + length (positions-from bytes (r .to)) ≡ length (positions-from bytes c)
+  pub few : length (positions-from bytes c) < 2 ^ 32
+
+-- ---- some start that every name takes
+
+abbrev pub Fits : (n : ℕ) → (takes : ℕ → ℕ → Type 0) → (start : ℕ) → Type 0
+Fits n takes start = (j : ℕ) → j < n → takes j start
+
+pub record Found (n : ℕ) (takes : ℕ → ℕ → Type 0) (r : Bool) : Type 0 where
+  pub yes : r ≡ true → (start : ℕ) × Fits n takes start
+  pub no : r ≡ false → (start : ℕ) → Fits n takes start → ⊥
+
+-- phrase: start + j is a position of name j
+abbrev pub stands : (bytes : List ℕ) (cs : List Positions) → ℕ → ℕ → Type 0
+stands bytes cs j start = (start + j) ∈ at-place bytes cs j
+
+-- unordered: the window from start on holds name j as often as it is named
+abbrev pub shows : (bytes : List ℕ) (window : ℕ) (wanted : List ℕ) (cs : List Positions) → ℕ → ℕ → Type 0
+shows bytes window wanted cs j start = getD wanted j 0 ≤ within start window (at-place bytes cs j)
+
+-- ---- a chain
+
+abbrev pub among : (bytes : List ℕ) (cs : List Positions) → ℕ → ℕ → Type 0
+among bytes cs j p = p ∈ at-place bytes cs j
+
+-- one position of each name, strictly rising, none more than the window above the first
+pub record Chain (n window : ℕ) (has : ℕ → ℕ → Type 0) (p : ℕ → ℕ) : Type 0 where
+  pub on : (j : ℕ) → j < n → has j (p j)
+  pub up : (j : ℕ) → j + 1 < n → p j < p (j + 1)
+  pub near : (j : ℕ) → j < n → p j ≤ p 0 + window
+
+pub record Chained (n window : ℕ) (has : ℕ → ℕ → Type 0) (r : Bool) : Type 0 where
+  pub yes : r ≡ true → (p : ℕ → ℕ) × Chain n window has p
+  pub no : r ≡ false → (p : ℕ → ℕ) → Chain n window has p → ⊥
+
+-- where a chain starts
+pub record Begun (i start pos r : ℕ) : Type 0 where
+  pub first : i ≡ 0 → r ≡ pos
+  pub later : 0 < i → r ≡ start

@@ -1,0 +1,153 @@
+use mathlib.Core.Path.{_≡_, sym, _∙_}
+use mathlib.Core.List.{List}
+use Prim.Native.Nat.{ℕ}
+use native.Mathlib.Omega.{arith}
+use lib.ListN.{length}
+use denote.Ref.{now}
+use borrow.Author.Needs.{needs}
+use Rattle.segment.specs.declared.checked.Checked.the-variants as check
+use Rattle.read_open.specs.declared.header.Opening.the-variants as opening
+use Rattle.segment.specs.Texts.{names}
+use Rattle.segment.specs.Steps.{checked}
+use Rattle.read_open.specs.Opened.{Opens}
+use Rattle.calls.specs.Questions.{check-question, search as question, search-text}
+use Rattle.ask_search.specs.Steps.{Askable}
+use Rattle.segment.proofs.Shapes.{names-count}
+use Rattle.ask_search.proofs.Called.{refused, closed, idles, answered, text-reply, text-stops, text-goes, text-fits}
+use Rattle.ask_search.proofs.questions.search_text.Statement.{statement}
+use Rattle.ask_search.proofs.questions.search_text.Tie as tie
+
+-- The question passed
+abbrev start : tie.After-enum-told → tie.Start
+start c = c .before .before .before .before .before .before .before
+
+abbrev bytes : tie.After-enum-told → List ℕ
+bytes c = now (start c .args .bytes)
+
+abbrev text : tie.After-enum-told → List ℕ
+text c = now (start c .args .text)
+
+abbrev ends : tie.After-enum-told → List ℕ
+ends c = now (start c .args .ends)
+
+abbrev ids : tie.After-enum-told → List ℕ
+ids c = now (start c .args .ids)
+
+passed : (c : tie.After-enum-told) → check.Passed ≡ checked (check-question (text c) (ends c))
+passed c = sym (c .enum-told .given .1) ∙ c .before .before .check-question .ensures
+
+goes : (c : tie.After-enum-told)
+    → search-text (bytes c) (start c .args .rule) (text c) (ends c) (length (ids c))
+    ≡ question (bytes c) (start c .args .rule) (names 0 (ends c) (text c)) (length (ids c))
+goes c = text-goes (text c) (ends c) (passed c) (bytes c) (start c .args .rule) (length (ids c))
+
+-- The segment opened
+abbrev before-open : tie.After-known-told2 → tie.After-enum-told
+before-open c = c .before .before .before .before
+
+opens : (c : tie.After-known-told2) → Opens (bytes (before-open c)) (opening.Layout (c .before .at .given .0 .0))
+opens c = rw (c .before .at .given .1) at (c .before .before .before .open-layout .ensures)
+
+-- The names resolved
+abbrev asked : (c : tie.After-resolve) → let k = c .before .before .before in
+    Askable (bytes (before-open k)) (k .before .at .given .0 .0) (start (before-open k) .args .rule) (c .resolve .result)
+asked c =
+    let i = c .before .before in
+    let k = i .before in
+    let p = before-open k in
+    let count = names-count 0 (ends p) (text p) in
+    record {
+      segment = opens k .0;
+      is-open = opens k .2;
+      names = names 0 (ends p) (text p);
+      resolved = c .resolve .ensures;
+      few = omega (arith, count, text-fits (text p) (ends p) (passed p) .1);
+      not-idle = rw count (sym (i .is-idle .ensures) ∙ c .before .if1 .left);
+    }
+
+check-question-requires : tie.Need-check-question-requires
+check-question-requires c κs = search needs
+
+enum-known-x : tie.Need-enum-known-x
+enum-known-x c = search needs
+
+returns : tie.Need-returns
+returns c =
+    let q = c .before .before .before in
+    let a = q .before .before .before .before .before .args in
+    text-reply
+    (refused (text-stops (now (a .text)) (now (a .ends)) (now (a .bytes)) (a .rule) (length (now (a .ids)))
+    (sym (c .before .x .given .1) ∙ q .check-question .ensures)))
+
+enum-told : tie.Need-enum-told
+enum-told c = search needs
+
+open-layout-requires : tie.Need-open-layout-requires
+open-layout-requires c κs = search needs
+
+enum-known-at : tie.Need-enum-known-at
+enum-known-at c = search needs
+
+enum-known-x-2 : tie.Need-enum-known-x-2
+enum-known-x-2 c = search needs
+
+returns-2 : tie.Need-returns-2
+returns-2 c =
+    let o = c .before .before .before in
+    let p = o .before in
+    text-reply
+    (closed (bytes p) (start p .args .rule) (names 0 (ends p) (text p)) (ids p) (goes p)
+    (rw (c .before .x2 .given .1) at (o .open-layout .ensures)))
+
+is-idle-requires : tie.Need-is-idle-requires
+is-idle-requires c κs = search needs
+
+returns-3 : tie.Need-returns-3
+returns-3 c =
+    let k = c .before .before in
+    let p = before-open k in
+    text-reply
+    (idles (bytes p) (start p .args .rule) (names 0 (ends p) (text p)) (ids p) (goes p) (opens k .1)
+    (rw (names-count 0 (ends p) (text p)) (sym (c .before .is-idle .ensures) ∙ c .if1 .taken)))
+
+resolve-requires : tie.Need-resolve-requires
+resolve-requires c κs =
+    let k = c .before .before in
+    let p = before-open k in
+    let f = text-fits (text p) (ends p) (passed p) in
+    ((opens k .0, opens k .2), f .0, f .1)
+
+answer-slots-requires : tie.Need-answer-slots-requires
+answer-slots-requires c κs = asked (c .before)
+
+same-length : tie.Need-same-length
+same-length c = search needs
+
+returns-4 : tie.Need-returns-4
+returns-4 c =
+    let w = c .before .before in
+    let r = w .before .before in
+    let k = r .before .before .before in
+    let p = before-open k in
+    text-reply
+    (answered (bytes p) (start p .args .rule) (names 0 (ends p) (text p)) (ids p) (goes p) (opens k .1)
+    (w .answer-slots .ensures (asked r)))
+
+pub search-text-spec : {M : Type 1} → statement M
+search-text-spec =
+    tie.close
+    (tie.spec
+    check-question-requires
+    enum-known-x
+    returns
+    enum-told
+    open-layout-requires
+    enum-known-at
+    enum-known-x-2
+    returns-2
+    is-idle-requires
+    returns-3
+    resolve-requires
+    answer-slots-requires
+    same-length
+    returns-4)

@@ -1,0 +1,3 @@
+// The search: phrase_match_strs, near_match, near_match_terms_strs (questions). Crate rules has the rules as the customer says them;
+// crate calls defines what the calls answer (specs/Questions.antt); specs/Promise.antt here says what they leave in the lent buffer.
+pub mod questions;

@@ -1,0 +1,45 @@
+-- What is claimed of the definitions: each test is the same as its words. Proved in proofs/: Well-named, Well-formed, Passing, Accepts,
+-- Sizes.
+use Prim.Native.Nat.{ℕ, _+_, _*_, _≤_}
+use mathlib.Core.Path.{_≡_}
+use mathlib.Core.List.{List, [], _∷_}
+use mathlib.Core.Option.{Option}
+use mathlib.Core.Logic.{_↔_}
+use lib.ListN.{length}
+use Rattle.utf8.specs.Utf8.{Is-utf8}
+use Rattle.segment.specs.Results.{ok}
+use Rattle.calls.specs.Lookups.{well-named}
+use Rattle.calls.specs.Questions.{check-question, Well-formed, two-checks}
+use Rattle.calls.specs.Given.{Lists}
+use Rattle.calls.specs.Checks.{check-lists}
+use Rattle.calls.specs.Acceptance.{Lists-fine, Writable}
+use Rattle.calls.specs.Writing.{write}
+use Rattle.calls.specs.Sizes.{postings-size}
+use Rattle.segment.specs.Records.{Posting}
+
+-- a questioned name passes exactly when it has at most 16,777,216 bytes and is UTF-8
+abbrev pub Well-named-exactly : Type 0
+Well-named-exactly = (name : List ℕ) → (well-named name ≡ ok tt) ↔ ((length name ≤ 16777216) × Is-utf8 name)
+
+-- kinds 12, 11 and 10 refuse exactly the questions that are not well-formed
+abbrev pub Passes-exactly : Type 0
+Passes-exactly = (text ends : List ℕ) → (check-question text ends ≡ ok tt) ↔ Well-formed text ends
+
+-- two names pass exactly when each has at most 16,777,216 bytes and is UTF-8
+abbrev pub Two-pass-exactly : Type 0
+Two-pass-exactly =
+    (a b : List ℕ) → (two-checks a b ≡ ok tt) ↔ ((length a ≤ 16777216) × (length b ≤ 16777216) × Is-utf8 a × Is-utf8 b)
+
+-- the writer's checks pass exactly what document 01 names no refusal for, apart from the room
+abbrev pub Checks-exactly : Type 0
+Checks-exactly = (l : Lists) → (check-lists l ≡ ok tt) ↔ Lists-fine l
+
+-- the writer accepts exactly what document 01 names no refusal for
+abbrev pub Accepts-exactly : Type 0
+Accepts-exactly = (l : Lists) (room : ℕ) → ((bytes : List ℕ) × (write l room ≡ ok bytes)) ↔ Writable l room
+
+-- document 01: k positions with their id and count take k + 2 to 5k + 10 bytes
+abbrev pub Posting-takes : Type 0
+Posting-takes =
+    (previous : Option ℕ) (p : Posting)
+    → (length (p .positions) + 2 ≤ postings-size previous (p ∷ [])) × (postings-size previous (p ∷ []) ≤ 5 * length (p .positions) + 10)

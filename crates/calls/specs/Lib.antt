@@ -1,0 +1,13 @@
+-- What a reader must believe, in the order to read it:
+pub mod Replies
+pub mod Lookups
+pub mod Reads
+pub mod Questions
+pub mod Given
+pub mod Checks
+pub mod Acceptance
+pub mod Writing
+pub mod Sizes
+pub mod Listing
+-- What is claimed of the definitions:
+pub mod Claims

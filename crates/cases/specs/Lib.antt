@@ -1,0 +1,24 @@
+-- Worked cases, each with its digits; the first three files are what they share:
+pub mod Segments
+pub mod Sealing
+pub mod Through
+pub mod Asked
+pub mod Checksums
+pub mod Codecs
+pub mod Faulty
+pub mod Document-reads
+pub mod Documents
+pub mod Entries
+pub mod From-records
+pub mod Headers
+pub mod Listed
+pub mod Lists
+pub mod Near-misses
+pub mod Not-written
+pub mod Numbers
+pub mod Question-order
+pub mod Refusals
+pub mod Replies
+pub mod Term-reads
+pub mod Too-large
+pub mod Written

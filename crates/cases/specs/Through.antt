@@ -1,0 +1,98 @@
+-- What the cases compute through, by what is computed. A definition that is named here is opened, and nothing is said of it.
+use Rattle.leb128.specs.Leb128.{uleb128, chunks, encoded}
+use Rattle.crc32.specs.Crc32.{plus, divided, bits, message, complement-first, number, crc32Of}
+use Rattle.utf8.specs.Utf8.{sequences, starts, first-of, char-length, characters, utf8}
+use Rattle.segment.specs.Names.{same, precedes}
+use Rattle.segment.specs.Texts.{ends-fit, names}
+use Rattle.segment.specs.Metadata.{read-document, read-documents, metadata, length-of}
+use Rattle.segment.specs.Directory.{part, read-list-range, read-entry, read-entries, directory, entry-of}
+use Rattle.segment.specs.Postings.{read-value, read-position, read-positions, read-head, read-posting, read-postings, all-postings, decode}
+use Rattle.segment.specs.Postings.{total-positions}
+use Rattle.segment.specs.Opening.{ranges, sections, section-checksum, checksums, contents, open-segment}
+use Rattle.calls.specs.Lookups.{well-named, postings-of, positions-of}
+use Rattle.calls.specs.Reads.{document-lengths, document-len, df, term-list, docs-with-term, term-postings, positions, joined-positions}
+use Rattle.calls.specs.Given.{given, laid-flat}
+use Rattle.calls.specs.Checks.{small, shaped, check-documents, position-checks, check-positions, check-posting, check-postings, check-name}
+use Rattle.calls.specs.Checks.{check-terms, check-given, check-lists}
+use Rattle.segment.specs.Written.{metadata-bytes, position-bytes, posting-bytes, postings-bytes, directory-bytes, name-bytes, lists-bytes}
+use Rattle.segment.specs.Written.{segment-bytes}
+use Rattle.calls.specs.Writing.{write, write-records}
+use Rattle.segment.specs.Contents.{decode-all, decode-segment}
+use Rattle.calls.specs.Listing.{digits, column, name-column, count-line, document-line, entry-line, document-lines, entry-lines}
+use Rattle.calls.specs.Listing.{refusal-line, listable, listing}
+use Rattle.claim_joint.specs.Own.{own-of, own-under}
+use Rattle.calls.specs.Sizes.{documents-size, positions-size, postings-size, terms-size}
+use Rattle.common.specs.Members.{every, some-of, kept}
+use Rattle.common.specs.Lists.{joined}
+use Rattle.rules.specs.Words.{mentions, within}
+use Rattle.rules.specs.Rules.{phrase-at, chain-from, ordered, unordered-at, unordered}
+use Rattle.rules.specs.Rules as rules
+use Rattle.rules.specs.Different.{different}
+use Rattle.calls.specs.Questions.{under, decode-names, check-names, check-question, two-checks, answer, answers, search, search-text}
+use Rattle.calls.specs.Questions.{search-two}
+
+unfoldable pub numbers : Unit {0}
+unfolding uleb128 encoded chunks
+numbers = tt
+
+unfoldable pub checksum : Unit {0}
+unfolding crc32Of number complement-first message bits divided plus
+checksum = tt
+
+unfoldable pub text : Unit {0}
+unfolding utf8 characters char-length first-of starts sequences
+text = tt
+
+unfoldable pub checking : Unit {0}
+unfolding text names ends-fit given small shaped check-lists check-given check-documents check-terms check-name check-postings
+    check-posting check-positions position-checks length-of precedes
+checking = tt
+
+unfoldable pub writing : Unit {0}
+unfolding checking write segment-bytes directory-bytes name-bytes lists-bytes metadata-bytes postings-bytes posting-bytes
+    position-bytes numbers checksum
+writing = tt
+
+unfoldable pub flattening : Unit {0}
+unfolding given names laid-flat
+flattening = tt
+
+unfoldable pub owning : Unit {0}
+unfolding flattening same own-of own-under
+owning = tt
+
+unfoldable pub measuring : Unit {0}
+unfolding flattening numbers documents-size terms-size postings-size positions-size
+measuring = tt
+
+unfoldable pub opening : Unit {0}
+unfolding checksum text numbers open-segment sections ranges checksums section-checksum contents metadata read-documents read-document
+    directory read-entries read-entry read-list-range part same precedes
+opening = tt
+
+unfoldable pub decoding : Unit {0}
+unfolding checksum numbers decode all-postings read-postings read-posting read-head read-positions read-position read-value length-of
+decoding = tt
+
+unfoldable pub reading-back : Unit {0}
+unfolding opening decoding decode-segment decode-all
+reading-back = tt
+
+unfoldable pub calling : Unit {0}
+unfolding opening decoding well-named entry-of postings-of positions-of document-lengths document-len df term-list docs-with-term
+    term-postings positions total-positions joined-positions
+calling = tt
+
+unfoldable pub asking : Unit {0}
+unfolding opening decoding names ends-fit entry-of postings-of positions-of every some-of kept mentions within phrase-at rules.starts
+    chain-from ordered unordered-at unordered under different decode-names answer answers search check-names check-question two-checks
+    search-text search-two
+asking = tt
+
+unfoldable pub from-records : Unit {0}
+unfolding write-records
+from-records = tt
+
+unfoldable pub listing-lines : Unit {0}
+unfolding opening listing listable refusal-line count-line document-lines document-line entry-lines entry-line name-column column digits
+listing-lines = tt

@@ -1,5 +1,0 @@
--- Laws that belong to no one function, lowest first.
-pub mod Table
-pub mod Xor
-pub mod Registers
-pub mod Division

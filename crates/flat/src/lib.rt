@@ -1,6 +1,0 @@
-// The eight flat lists taken term by term, and all checks of them. Read in this order:
-//   walk    where the next term's name, postings and positions start
-//   lists   every refusal but 13, in document 01's order; `check_lists` is all of them
-// specs/ says what each is to compute.
-pub mod lists;
-pub mod walk;

@@ -1,8 +1,0 @@
--- Laws that belong to no one function, lowest first.
-pub mod Members
-pub mod Leap
-pub mod Places
-pub mod Chains
-pub mod Counts
-pub mod Views
-pub mod Bridges

@@ -1,4 +1,0 @@
--- Laws that belong to no one function, lowest first.
-pub mod Turns
-pub mod Asking
-pub mod Answering

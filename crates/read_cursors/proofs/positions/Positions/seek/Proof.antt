@@ -1,0 +1,63 @@
+use mathlib.Core.Path.{_≡_, refl}
+use Prim.Native.Nat.{ℕ}
+use denote.Ref.{now}
+use borrow.Author.Needs.{needs}
+use native.Mathlib.Omega.{arith}
+use Rattle.read_cursors.specs.Held.{seek-in}
+use Rattle.read_cursors.specs.Steps.{positions-from}
+use Rattle.read_cursors.proofs.Seeks.{Ahead, seek-stop, seek-end, seek-next}
+use Rattle.read_cursors.proofs.Entering.{positions-ahead}
+use Rattle.read_cursors.proofs.positions.Positions.seek.Statement.{statement}
+use Rattle.read_cursors.proofs.positions.Positions.seek.Tie as tie
+
+abbrev Inv-loop : tie.InvT-loop
+Inv-loop bytes target c₀ c =
+    seek-in (λ (p : ℕ). p) target (positions-from bytes c) ≡ seek-in (λ (p : ℕ). p) target (positions-from bytes c₀)
+
+abbrev μ-loop : tie.MeasureT-loop
+μ-loop bytes target c₀ c = c .remaining
+
+ahead : (l : tie.At-loop Inv-loop μ-loop)
+    → let p = l .loop .c in Ahead (λ (p : ℕ). p) (p .pos .0) (p .remaining) (positions-from (now (l .before .before .args .bytes)) p)
+ahead l = let p = l .loop .c in positions-ahead _ (p .remaining) (p .at) (p .pos .0)
+
+loop-holds : tie.Need-loop-holds Inv-loop μ-loop
+loop-holds c = refl
+
+cast-if2 : tie.Need-cast-if2 Inv-loop μ-loop
+cast-if2 c = search needs
+
+returns : tie.Need-returns Inv-loop μ-loop
+returns c =
+    let l = c .before .before .before .before .before in
+    record { holds = seek-stop _ (ahead l) (l .loop .inv) (omega arith); reached = λ h. omega arith }
+
+advance-requires : tie.Need-advance-requires Inv-loop μ-loop
+advance-requires c κs = search needs
+
+loop-less : tie.Need-loop-less Inv-loop μ-loop
+loop-less c = search needs
+
+loop-again : tie.Need-loop-again Inv-loop μ-loop
+loop-again c =
+    let l = c .before .before .before .before .before .before in
+    seek-next _ (ahead l) (l .loop .inv) (omega arith) (c .advance .ensures .holds)
+
+returns-2 : tie.Need-returns-2 Inv-loop μ-loop
+returns-2 c =
+    let l = c .before .before in
+    record { holds = seek-end _ (ahead l) (l .loop .inv) (omega arith); reached = λ h. absurd (omega arith) }
+
+pub seek-spec : {M : Type 1} → statement M
+seek-spec =
+    tie.close
+    (tie.spec
+    Inv-loop
+    μ-loop
+    loop-holds
+    cast-if2
+    returns
+    advance-requires
+    loop-less
+    loop-again
+    returns-2)

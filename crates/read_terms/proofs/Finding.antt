@@ -1,0 +1,91 @@
+-- A term found by its name and its list decoded: the entry at an index of the directory, and the list's checksum.
+-- Assumes nothing.
+use mathlib.Core.Path.{_≡_, refl, ap, _∙_}
+use mathlib.Core.List.{List}
+use mathlib.Core.Option.{some}
+use Prim.Native.Nat.{ℕ, _+_, _*_, _-_, _≤_}
+use native.Mathlib.Omega.{arith}
+use lib.ListN.{length, length-drop}
+use lib.Seq.{drop-drop}
+use borrow.Author.Tests.{eq-eqb, ne-eqb}
+use Rattle.crc32.specs.Crc32.{crc32Of}
+use Rattle.read_open.specs.declared.header.Layout.{Layout}
+use Rattle.read_open.specs.declared.directory.TermEntry.the-variants as place
+use Rattle.read_lists.specs.declared.lists.Tally.{Tally}
+use Rattle.read_lists.specs.declared.lists.Tally.the-variants as tally
+use Rattle.segment.specs.declared.refusal.Refusal.{Refusal}
+use Rattle.segment.specs.Refusals.{checksum-mismatch, term-postings}
+use Rattle.segment.specs.Results.{Result, ok, refuse}
+use Rattle.segment.specs.Records.{Document, Posting, Entry, Segment, field}
+use Rattle.segment.specs.Directory.{entry-of}
+use Rattle.segment.specs.Postings.{all-postings, decode, total-positions}
+use Rattle.read_open.specs.Steps.{cut, Entry-inside, Located}
+use Rattle.read_lists.specs.Steps.{tallied}
+use Rattle.read_open.specs.Opened.{Is-open, Opened-as}
+use Rattle.read_open.proofs.Checks.{to-end}
+use Rattle.read_open.proofs.Lookup.{located-at, located-nowhere}
+use Rattle.read_terms.specs.declared.find.TermList.{TermList}
+use Rattle.read_terms.specs.declared.find.TermFound.the-variants as found
+use Rattle.read_terms.specs.Steps.{entry-named, list-entry, Term-found}
+
+-- where entry i's list lies in the lists
+abbrev list-at : List ℕ → Layout → ℕ → ℕ
+list-at bytes l i = field 8 (i * 32 + 8) (cut bytes l .directory)
+
+abbrev list-size : List ℕ → Layout → ℕ → ℕ
+list-size bytes l i = field 8 (i * 32 + 16) (cut bytes l .directory)
+
+-- an entry that was located in an open segment
+module _ {bytes : List ℕ} {l : Layout} {name : List ℕ} (is : Opened-as bytes l) (i : ℕ)
+    (at : Located (cut bytes l .directory) (cut bytes l .names) (l .terms) name (place.At i)) where
+  pub entry-inside : Entry-inside (cut bytes l .directory) (cut bytes l .names) i
+  entry-inside = is .1 .sorted .inside i (at .0)
+
+  -- the list lies in the bytes, so that its ends fit
+  pub list-ends : l .lists + list-at bytes l i + list-size bytes l i ≤ length bytes
+  list-ends =
+      let fits = rw (to-end bytes (l .lists)) at (is .1 .list i (at .0)) in
+      omega (arith, length-drop (l .lists) bytes, is .1 .ordered .lists)
+
+  module _ (t : TermList) (place : t .entry ≡ i) (start : t .start ≡ l .lists + list-at bytes l i)
+      (end : t .end ≡ t .start + list-size bytes l i) (df : t .df ≡ field 4 (i * 32 + 24) (cut bytes l .directory))
+      (checksum : t .checksum ≡ field 4 (i * 32 + 28) (cut bytes l .directory)) where
+    entry-is : (s : Segment) → Is-open bytes l s → entry-of (s .entries) name ≡ some (entry-named name bytes t)
+    entry-is s is-open =
+        let size : t .end - t .start ≡ list-size bytes l i = omega arith in
+        located-at is-open name i at ∙ ap some (is-open .entry i (at .0) ∙
+        rw (at .1, size, start, df, checksum, to-end bytes (l .lists), drop-drop (list-at bytes l i) (l .lists) bytes))
+
+    pub found-list : Term-found bytes l name (found.List t)
+    found-list = (record { in-order = omega arith; inside = omega (arith, list-ends) }, rw place (at .1), entry-is, rw place (at .0))
+
+pub found-none : {bytes : List ℕ} {l : Layout} {name : List ℕ}
+    → Located (cut bytes l .directory) (cut bytes l .names) (l .terms) name place.Absent → Term-found bytes l name found.Absent
+found-none {name = name} at s is = located-nowhere is name at
+
+-- the checksum of a list, then its postings
+module _ (documents : List Document) (e : Entry) {sum : ℕ} (is : sum ≡ crc32Of (e .list)) where
+  pub sum-differs : (sum ≡ e .checksum → ⊥) → tally.Refused (checksum-mismatch term-postings) ≡ tallied (decode documents e)
+  unfolding decode
+  sum-differs n = rw (← is, ne-eqb sum (e .checksum) n)
+
+  pub sum-agrees : {r : Tally} → sum ≡ e .checksum → r ≡ tallied (all-postings (e .df) documents (e .list))
+      → r ≡ tallied (decode documents e)
+  unfolding decode
+  sum-agrees same r = rw (← is, eq-eqb sum (e .checksum) same) r
+
+-- decoding asks for no name
+pub nameless : (documents : List Document) (name bytes : List ℕ) (l : TermList)
+    → decode documents (entry-named name bytes l) ≡ decode documents (list-entry bytes l)
+unfolding decode
+nameless documents name bytes l = refl
+
+-- a tally that was answered is of postings, or of the refusal
+pub tally-ok : (r : Result (List Posting)) {n : ℕ} → tally.Positions n ≡ tallied r
+    → (ps : List Posting) × (r ≡ ok ps) × (total-positions ps ≡ n)
+tally-ok (ok ps) e = (ps, refl, cc)
+tally-ok (refuse x) e = let z : _≡_ {A = ℕ} 0 1 = cc in absurd (omega arith)
+
+pub tally-refused : (r : Result (List Posting)) {x : Refusal} → tally.Refused x ≡ tallied r → r ≡ refuse x
+tally-refused (ok ps) e = let z : _≡_ {A = ℕ} 0 1 = cc in absurd (omega arith)
+tally-refused (refuse y) e = cc

@@ -1,6 +1,0 @@
--- Laws that belong to no one function, lowest first.
-pub mod Exchanging
-pub mod Lending
-pub mod Elements
-pub mod Entered
-pub mod Calling
