@@ -1,8 +1,9 @@
 #!/usr/bin/env python3
 """Writes the inputs of the programs listing and listings, and what they must write.
 
-Made from document 01's words alone, with zlib's checksum: a segment is laid out and checked here by this script, and no line of the
-expected output comes from a run of the Rattle code. Run it in crates/listings; it writes ../listing/{stdin,stdout}, data/*, args, stdout.
+Made from the words of documents 01 and 02 alone, with zlib's checksum and Python's own UTF-8: a segment is laid out and checked here by
+this script, and no line of the expected output comes from a run of the Rattle code. Run it in crates/listings; it writes
+../listing/{stdin,stdout}, data/*, args, stdout. tests/listing/run imports it, which writes nothing.
 """
 import os, struct, zlib
 
@@ -125,6 +126,11 @@ def opened(s):
 
 # ---- the listing
 
+def column(name):
+    """A name's 16 places are characters, one for each code point (document 02, wish 1); those below 32 and 127 print as ?."""
+    shown = "".join("?" if ord(c) < 32 or ord(c) == 127 else c for c in name.decode("utf-8"))
+    return shown[:16].ljust(16).encode("utf-8")
+
 def listing(s):
     try:
         if len(s) > 65536:
@@ -136,8 +142,7 @@ def listing(s):
     for bar in bars:
         out += b"%10d%10d\n" % bar
     for name, df in sounds:
-        shown = bytes(63 if b < 32 or b == 127 else b for b in name)
-        out += shown[:16].ljust(16) + b"%10d\n" % df
+        out += column(name) + b"%10d\n" % df
     return out
 
 # ---- the cases
@@ -168,6 +173,61 @@ names = {
     b"exactly sixteen!\n": [(6, [2])],
     b"one that is longer than sixteen bytes": [(6, [3])],
 }
+
+def named(*sounds):
+    """A segment of one bar (1, 4), with each of these sounds on step 0."""
+    assert len(set(sounds)) == len(sounds)
+    return segment([(1, 4)], {name.encode("utf-8"): [(1, [0])] for name in sounds})
+
+def letters(first, n):
+    """n characters from `first` on, no two alike, so that a cut at the wrong place shows."""
+    return "".join(chr(ord(first) + k) for k in range(n))
+
+# Worked out by hand from document 02's wish 1: padded to 16 characters, and cut after the sixteenth.
+greek_10_letters = named("ταμπούρλοσ")
+assert len("ταμπούρλοσ".encode("utf-8")) == 20
+assert listing(greek_10_letters).decode() == """\
+         1         1
+         1         4
+ταμπούρλοσ               1
+"""
+greek_18_letters = named("αβγδεζηθικλμνξοπρσ")
+assert listing(greek_18_letters).decode() == """\
+         1         1
+         1         4
+αβγδεζηθικλμνξοπ         1
+"""
+
+# One short of 16, 16 and one over, in one, two, three and four bytes a character.
+around_16 = [letters(first, n) for first in "aα一𝐀" for n in (15, 16, 17)]
+
+# U+0080 to U+009F are control characters too, but of two bytes: they print as they are.
+mixed_widths = [
+    "\x01a\u00e9\u0085鼓𝄞\x1fλ\x7f\u0080 \u009fz",
+    "αβγδεζηθικλμνξ\x1f",
+    "αβγδεζηθικλμνξο\x7f",
+    "αβγδεζηθικλμνξοπ\x01",
+    "鼓𝄞aλ" * 4,
+    "𝄞鼓λa" * 4 + "𝄞",
+]
+
+# An accent that follows its letter is a character of its own, though a screen shows the two as one.
+combining_marks = [
+    "e\u0301",
+    "abcdefghijklmne\u0301",
+    "abcdefghijklmnoe\u0301",
+    "e\u0301" * 8,
+    "\u0301" + "e\u0301" * 8,
+]
+
+# The sixteenth byte is not the last of its letter: in names of fewer than 16 characters, and in longer ones.
+beginnings = [("a", "α"), ("", "一"), ("ab", "一"), ("a", "𝐀"), ("ab", "𝐀"), ("abc", "𝐀")]
+half_a_letter = [ahead + letters(first, n) for ahead, first in beginnings for n in (8, 17)]
+
+# Where the number of bytes changes, beside the surrogates, and the last character of all: one of each, and seventeen.
+boundaries = [0x7F, 0x80, 0x7FF, 0x800, 0xD7FF, 0xE000, 0xFFFF, 0x10000, 0x10FFFF]
+boundary_characters = ["U+%04X %c" % (c, c) for c in boundaries] + [chr(c) * 17 for c in boundaries]
+
 broken = bytearray(two_bars)
 broken[72] ^= 1
 
@@ -177,6 +237,13 @@ cases = [
     ("three_bars_one_sound", segment([(0, 1), (9, 0), (4294967295, 4294967295)], {b"tom": [(0, [0]), (4294967295, [0, 4294967294])]})),
     ("one_bar_three_sounds", segment([(1234567890, 8)], {n: [(1234567890, [k])] for k, n in enumerate([b"hat", b"ride", b"rim"])})),
     ("names", segment(few, names)),
+    ("greek_10_letters", greek_10_letters),
+    ("greek_18_letters", greek_18_letters),
+    ("15_16_17_characters", named(*around_16)),
+    ("mixed_widths", named(*mixed_widths)),
+    ("combining_marks", named(*combining_marks)),
+    ("half_a_letter", named(*half_a_letter)),
+    ("boundary_characters", named(*boundary_characters)),
     ("71_bytes", empty[:71]),
     ("no_magic", bytes(72)),
     ("version_3", segment([], {}, version=3)),
@@ -196,10 +263,11 @@ def write(path, s):
     with open(path, "wb") as f:
         f.write(s)
 
-os.makedirs("data", exist_ok=True)
-for name, s in cases:
-    write("data/" + name, s)
-write("args", b"".join(name.encode() + b"\n" for name, _ in cases))
-write("stdout", b"".join(name.encode() + b"\n" + listing(s) for name, s in cases))
-write("../listing/stdin", two_bars)
-write("../listing/stdout", listing(two_bars))
+if __name__ == "__main__":
+    os.makedirs("data", exist_ok=True)
+    for name, s in cases:
+        write("data/" + name, s)
+    write("args", b"".join(name.encode() + b"\n" for name, _ in cases))
+    write("stdout", b"".join(name.encode() + b"\n" + listing(s) for name, s in cases))
+    write("../listing/stdin", two_bars)
+    write("../listing/stdout", listing(two_bars))

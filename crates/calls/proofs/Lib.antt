@@ -14,3 +14,4 @@ pub mod Lengths
 pub mod Sizes
 pub mod Well-formed
 pub mod Well-named
+pub mod Characters

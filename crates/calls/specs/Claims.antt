@@ -1,12 +1,12 @@
--- What is claimed of the definitions: each test is the same as its words. Proved in proofs/: Well-named, Well-formed, Passing, Accepts,
--- Sizes.
-use Prim.Native.Nat.{ℕ, _+_, _*_, _≤_}
+-- What is claimed of the definitions: each test is the same as its words, and so is a name's column. Proved in proofs/: Well-named,
+-- Well-formed, Passing, Accepts, Sizes, Characters.
+use Prim.Native.Nat.{ℕ, _+_, _-_, _*_, _≤_}
 use mathlib.Core.Path.{_≡_}
-use mathlib.Core.List.{List, [], _∷_}
+use mathlib.Core.List.{List, [], _∷_, _++_, map}
 use mathlib.Core.Option.{Option}
 use mathlib.Core.Logic.{_↔_}
-use lib.ListN.{length}
-use Rattle.utf8.specs.Utf8.{Is-utf8}
+use lib.ListN.{length, take, replicate}
+use Rattle.utf8.specs.Utf8.{Scalars, text, Is-utf8, decoded}
 use Rattle.segment.specs.Results.{ok}
 use Rattle.calls.specs.Lookups.{well-named}
 use Rattle.calls.specs.Questions.{check-question, Well-formed, two-checks}
@@ -15,6 +15,7 @@ use Rattle.calls.specs.Checks.{check-lists}
 use Rattle.calls.specs.Acceptance.{Lists-fine, Writable}
 use Rattle.calls.specs.Writing.{write}
 use Rattle.calls.specs.Sizes.{postings-size}
+use Rattle.calls.specs.Listing.{shown, name-column, listing}
 use Rattle.segment.specs.Records.{Posting}
 
 -- a questioned name passes exactly when it has at most 16,777,216 bytes and is UTF-8
@@ -43,3 +44,18 @@ abbrev pub Posting-takes : Type 0
 Posting-takes =
     (previous : Option ℕ) (p : Posting)
     → (length (p .positions) + 2 ≤ postings-size previous (p ∷ [])) × (postings-size previous (p ∷ []) ≤ 5 * length (p .positions) + 10)
+
+-- document 02, wish 1: of a name that is the encoding of these characters, the column is the encoding of the first `width` of them, with ?
+-- for each below 32 and 127, then a space for each character fewer than `width`
+abbrev pub Name-by-characters : Type 0
+Name-by-characters =
+    (width : ℕ) (values : List ℕ) → Scalars values
+    → name-column width (text values) ≡ text (map shown (take width values)) ++ replicate (width - length values) 32
+
+-- never half a character: whatever the name's bytes, its column is UTF-8, of exactly `width` characters
+abbrev pub Column-whole : Type 0
+Column-whole = (width : ℕ) (name : List ℕ) → Is-utf8 (name-column width name) × (length (decoded (name-column width name)) ≡ width)
+
+-- every listing is a text in UTF-8, a refusal's line too
+abbrev pub Listing-utf8 : Type 0
+Listing-utf8 = (bytes : List ℕ) → Is-utf8 (listing bytes)

@@ -1,11 +1,12 @@
 -- The listing (document 01): first line the counts of documents and terms; then id and length per document; then per term, in directory
--- order, its name, cut or padded with spaces to 16 bytes, and df. Numbers are right-justified in 10 columns; every line ends with a line
--- feed. A refusal prints one line, its three numbers, and nothing else.
+-- order, its name, cut or padded with spaces to 16 characters (document 02, wish 1), and df. Numbers are right-justified in 10 columns;
+-- every line ends with a line feed. A refusal prints one line, its three numbers, and nothing else.
 use Prim.Native.Nat.{ℕ, zero, suc, _+_, _-_, _/_, _%_}
 use mathlib.Core.Bool.{cond, _||_}
 use mathlib.Core.List.{List, [], _∷_, _++_, map}
 use lib.Dec.{ltb, leb, eqb}
 use lib.ListN.{length, take, replicate}
+use Rattle.utf8.specs.Utf8.{text, decoded}
 use Rattle.segment.specs.declared.refusal.Refusal.{Refusal}
 use Rattle.segment.specs.Refusals.{too-large}
 use Rattle.segment.specs.Results.{Result, ok, refuse, _>>=_, check, roomy}
@@ -23,13 +24,17 @@ digits (suc m) n rest =
 unfoldable pub column : ℕ → List ℕ
 column n = replicate (10 - length (digits 20 n [])) 32 ++ digits 20 n []
 
--- bytes below 32 and 127 print as ?
+-- a character as it prints: those below 32 and 127 as ?
 abbrev pub shown : ℕ → ℕ
-shown b = cond (ltb b 32 || eqb b 127) 63 b
+shown c = cond (ltb c 32 || eqb c 127) 63 c
 
--- a name cut or padded with spaces to `width` bytes
-unfoldable pub name-column : (width : ℕ) → List ℕ → List ℕ
-name-column width name = map shown (take width name) ++ replicate (width - length name) 32
+-- characters, cut or padded with spaces to `width` of them
+abbrev pub fitted : (width : ℕ) (characters : List ℕ) → List ℕ
+fitted width characters = map shown (take width characters) ++ replicate (width - length characters) 32
+
+-- a name's column: its characters, one for each code point, cut or padded, in UTF-8 again
+unfoldable pub name-column : (width : ℕ) (name : List ℕ) → List ℕ
+name-column width name = text (fitted width (decoded name))
 
 unfoldable pub count-line : Segment → List ℕ
 count-line s = column (length (s .documents)) ++ column (length (s .entries)) ++ 10 ∷ []

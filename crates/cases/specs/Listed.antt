@@ -1,14 +1,33 @@
--- The listing: document 01's two bars as it prints them, and one line for a refusal.
+-- The listing: document 01's two bars as it prints them, and one line for a refusal; names by characters (document 02, wish 1).
 use mathlib.Core.Path.{_≡_, refl}
 use Prim.Native.Nat.{ℕ}
 use mathlib.Core.List.{List, [], _∷_, _++_}
 use lib.ListN.{length, replicate}
 use Rattle.segment.specs.Records.{Document, Entry}
-use Rattle.calls.specs.Listing.{listing, document-line, entry-line, list-into}
+use Rattle.calls.specs.Listing.{listing, document-line, entry-line, name-column, list-into}
 use Rattle.segment.specs.Results.{ok}
 use Rattle.cases.specs.Through.{listing-lines}
 use Rattle.cases.specs.Sealing.{document, refused}
 use Rattle.cases.specs.Segments.{segment-of-two}
+
+-- a term of one document, of whatever list
+abbrev named : List ℕ → Entry
+named name = record { name = name; list = []; df = 1; checksum = 0 }
+
+-- αβγδεζηθικλμνξοπ and ταμπούρλοσ, two bytes a letter
+abbrev sixteen-letters : List ℕ
+sixteen-letters =
+    0xCE ∷ 0xB1 ∷ 0xCE ∷ 0xB2 ∷ 0xCE ∷ 0xB3 ∷ 0xCE ∷ 0xB4 ∷ 0xCE ∷ 0xB5 ∷ 0xCE ∷ 0xB6 ∷ 0xCE ∷ 0xB7 ∷ 0xCE ∷ 0xB8 ∷ 0xCE ∷ 0xB9
+    ∷ 0xCE ∷ 0xBA ∷ 0xCE ∷ 0xBB ∷ 0xCE ∷ 0xBC ∷ 0xCE ∷ 0xBD ∷ 0xCE ∷ 0xBE ∷ 0xCE ∷ 0xBF ∷ 0xCF ∷ 0x80 ∷ []
+
+abbrev ten-letters : List ℕ
+ten-letters =
+    0xCF ∷ 0x84 ∷ 0xCE ∷ 0xB1 ∷ 0xCE ∷ 0xBC ∷ 0xCF ∷ 0x80 ∷ 0xCE ∷ 0xBF ∷ 0xCF ∷ 0x8D ∷ 0xCF ∷ 0x81 ∷ 0xCE ∷ 0xBB ∷ 0xCE ∷ 0xBF
+    ∷ 0xCF ∷ 0x83 ∷ []
+
+-- e and the mark U+0301, U+00E9, U+9F13, U+1F941
+abbrev mixed : List ℕ
+mixed = 0x65 ∷ 0xCC ∷ 0x81 ∷ 0xC3 ∷ 0xA9 ∷ 0xE9 ∷ 0xBC ∷ 0x93 ∷ 0xF0 ∷ 0x9F ∷ 0xA5 ∷ 0x81 ∷ []
 
 -- the two bars above give these five lines. Fails: a column of another width, left-justified, a line feed missing, df before the name
 two-listed : listing segment-of-two
@@ -39,16 +58,31 @@ wide-line : document-line (document 4294967295 0)
 unfolding listing-lines
 wide-line = refl
 
--- a name is cut to 16 bytes; bytes below 32 and 127 print as ?, 32, 126 and 128 as they are. Fails: cut to 15, a bound off by one
-cut-line : entry-line (record {
-  name = 0x1F ∷ 0x20 ∷ 0x7E ∷ 0x7F ∷ 0x80 ∷ 0x00 ∷ replicate 11 0x61;
-  list = [];
-  df = 1;
-  checksum = 0;
-})
-    ≡ 0x3F ∷ 0x20 ∷ 0x7E ∷ 0x3F ∷ 0x80 ∷ 0x3F ∷ (replicate 10 0x61 ++ replicate 9 0x20 ++ 0x31 ∷ 0x0A ∷ [])
+-- a name is cut after its sixteenth character; characters below 32 and 127 print as ?, 32, 126 and 128 (two bytes) as they are.
+-- Fails: cut to 15, a bound off by one, ? for every control character
+cut-line : entry-line (named (0x1F ∷ 0x20 ∷ 0x7E ∷ 0x7F ∷ 0xC2 ∷ 0x80 ∷ 0x00 ∷ replicate 11 0x61))
+    ≡ 0x3F ∷ 0x20 ∷ 0x7E ∷ 0x3F ∷ 0xC2 ∷ 0x80 ∷ 0x3F ∷ (replicate 10 0x61 ++ replicate 9 0x20 ++ 0x31 ∷ 0x0A ∷ [])
 unfolding listing-lines
 cut-line = refl
+
+-- document 02, wish 1: 18 Greek letters are cut after the sixteenth. Fails: cut at 16 bytes, which is eight letters
+greek-line : entry-line (named (sixteen-letters ++ 0xCF ∷ 0x81 ∷ 0xCF ∷ 0x83 ∷ []))
+    ≡ sixteen-letters ++ replicate 9 0x20 ++ 0x31 ∷ 0x0A ∷ []
+unfolding listing-lines
+greek-line = refl
+
+-- ten Greek letters, 20 bytes, have six spaces after them, then come the nine in front of df. Fails: padded in bytes, which is none
+padded-line : entry-line (named ten-letters) ≡ ten-letters ++ replicate 6 0x20 ++ replicate 9 0x20 ++ 0x31 ∷ 0x0A ∷ []
+unfolding listing-lines
+padded-line = refl
+
+-- characters of one, two, three and four bytes, and a combining mark: five places in a column of 12, and cut to 3 and to 0.
+-- Fails: a letter with its mark as one, a cut inside a letter
+mixed-names : (name-column 12 mixed ≡ mixed ++ replicate 7 0x20)
+    × (name-column 3 mixed ≡ 0x65 ∷ 0xCC ∷ 0x81 ∷ 0xC3 ∷ 0xA9 ∷ [])
+    × (name-column 0 mixed ≡ [])
+unfolding listing-lines
+mixed-names = (refl, refl, refl)
 
 -- 65,536 bytes are opened, and refused for what they are (no magic); one more is 12. Fails: a limit of 65,535 or 65,537
 largest-listed : (xs : List ℕ)

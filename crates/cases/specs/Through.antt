@@ -1,7 +1,7 @@
 -- What the cases compute through, by what is computed. A definition that is named here is opened, and nothing is said of it.
 use Rattle.leb128.specs.Leb128.{uleb128, chunks, encoded}
 use Rattle.crc32.specs.Crc32.{plus, divided, bits, message, complement-first, number, crc32Of}
-use Rattle.utf8.specs.Utf8.{sequences, starts, first-of, char-length, characters, utf8}
+use Rattle.utf8.specs.Utf8.{sequences, starts, first-of, char-length, characters, utf8, octets, value, decoded-from, decoded}
 use Rattle.segment.specs.Names.{same, precedes}
 use Rattle.segment.specs.Texts.{ends-fit, names}
 use Rattle.segment.specs.Metadata.{read-document, read-documents, metadata, length-of}
@@ -95,4 +95,5 @@ from-records = tt
 
 unfoldable pub listing-lines : Unit {0}
 unfolding opening listing listable refusal-line count-line document-lines document-line entry-lines entry-line name-column column digits
+    octets value decoded-from decoded
 listing-lines = tt

@@ -2,11 +2,13 @@
 -- Assumes nothing.
 use mathlib.Core.Path.{_≡_, refl, sym, ap, ap₂, _∙_}
 use mathlib.Core.List.{List, [], _∷_, _++_}
-use Prim.Native.Nat.{ℕ, _+_, _≤_}
+use Prim.Native.Nat.{ℕ, suc, _+_, _≤_}
+use native.Mathlib.Nat.{add-zero}
 use native.Mathlib.Omega.{arith}
-use lib.ListN.{length, length-append}
+use lib.ListN.{length, drop, set, length-append, length-drop, length-set}
 use lib.Seq.{sets, length-sets}
 use Rattle.common.specs.Stores.{Stored}
+use Rattle.common.proofs.Loops.{drop-end}
 use Rattle.common.proofs.Sets.{sets-append}
 
 pub stored-length : {values l o : List ℕ} {at n : ℕ} → Stored values at l n o → length o ≡ length l
@@ -27,6 +29,28 @@ stored-append {a} {b} s t = record {
 pub stored-four : {a b c d l o₁ o₂ o₃ o₄ : List ℕ} {at n₁ n₂ n₃ n₄ : ℕ}
     → Stored a at l n₁ o₁ → Stored b n₁ o₁ n₂ o₂ → Stored c n₂ o₂ n₃ o₃ → Stored d n₃ o₃ n₄ o₄ → Stored (a ++ b ++ c ++ d) at l n₄ o₄
 stored-four a b c d = stored-append (stored-append (stored-append a b) c) d
+
+-- of a run that is stored an element at a time, in a loop over i: what is left of it makes the rest
+pub record Storing (values : List ℕ) (at : ℕ) (entry : List ℕ) (i : ℕ) (out : List ℕ) : Type 0 where
+  pub few : i ≤ length values
+  pub long : length out ≡ length entry
+  pub same : sets out (at + i) (drop i values) ≡ sets entry at values
+
+pub storing-start : (values : List ℕ) (at : ℕ) (entry : List ℕ) → Storing values at entry 0 entry
+storing-start values at entry = record { few = omega arith; long = refl; same = rw (add-zero at) }
+
+module _ {values entry out : List ℕ} {at i : ℕ} (s : Storing values at entry i out) where
+  pub storing-next : {v w : ℕ} → v ≡ w → drop i values ≡ w ∷ drop (i + 1) values → Storing values at entry (i + 1) (set out (at + i) v)
+  storing-next {v} e step =
+      let next : at + (i + 1) ≡ suc (at + i) = omega arith in
+      record {
+        few = omega (arith, ap length step, length-drop i values);
+        long = length-set out (at + i) v ∙ s .long;
+        same = rw (next, e) (ap (sets out (at + i)) (sym step) ∙ s .same);
+      }
+
+  pub storing-end : {next : ℕ} → length values ≤ i → next ≡ at + length values → Stored values at entry next out
+  storing-end h e = record { past = e; left = rw (drop-end values i h) at (s .same) }
 
 -- of a run that is being stored: once what is left of it is stored too, all of it is, and there is room for that
 pub record To-store (bytes : List ℕ) (at : ℕ) (entry left : List ℕ) (next : ℕ) (out : List ℕ) : Type 0 where

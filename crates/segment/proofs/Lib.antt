@@ -6,3 +6,4 @@ pub mod Fields
 pub mod Inversions
 pub mod Shapes
 pub mod Strings
+pub mod Named

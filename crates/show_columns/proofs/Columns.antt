@@ -1,18 +1,18 @@
--- Columns: a number's from the right, as the code stores them, and a name's by index.
+-- A number's columns from the right, as the code stores them.
 -- Assumes nothing.
 use mathlib.Core.Path.{_≡_, refl, sym, ap, _∙_}
-use mathlib.Core.List.{List, [], _∷_, _++_, append-assoc, append-nil, map}
+use mathlib.Core.List.{List, [], _∷_, _++_, append-assoc, append-nil}
 use mathlib.Core.Logic.{⊎-elim}
 use Prim.Native.Nat.{ℕ, zero, suc, _+_, _-_, _/_, _%_, _^_, _≤_, _<_}
-use native.Mathlib.Nat.{pow-suc, sub-zero, suc-sub-suc}
+use native.Mathlib.Nat.{pow-suc, sub-zero}
 use native.Mathlib.Omega.{arith}
-use lib.ListN.{length, take, drop, getD, set, replicate, length-append, length-map, length-take, length-replicate, getD-replicate}
+use lib.ListN.{length, set, replicate, length-append, length-replicate}
 use lib.Seq.{sets}
 use borrow.Author.Tests.{lt-ltb, le-ltb, ne-eqb}
 use Rattle.common.specs.Stores.{Stored}
-use Rattle.common.proofs.Loops.{lt-or-ge, drop-step}
-use Rattle.calls.specs.Listing.{digits, column, shown, name-column}
-use Rattle.show_columns.specs.Steps.{digit-of, byte-of}
+use Rattle.common.proofs.Loops.{lt-or-ge}
+use Rattle.calls.specs.Listing.{digits, column}
+use Rattle.show_columns.specs.Steps.{digit-of}
 use Rattle.common.proofs.Sets.{sets-last}
 
 -- ---- a number
@@ -135,43 +135,3 @@ front-end (suc i) left h = absurd (omega arith)
 pub column-stored : (l : List ℕ) (at n : ℕ) → n < 10000000000
     → sets (set l (at + 9) (48 + n % 10)) at (front 9 (n / 10)) ≡ sets l at (column n)
 column-stored l at n h = front-stored l at 9 (n / 10) (48 + n % 10) ∙ ap (sets l at) (sym (column-is n h))
-
--- ---- a name
-
-pub name-length : (w : ℕ) (name : List ℕ) → length (name-column w name) ≡ w
-unfolding name-column
-name-length w name = simp (length-append, length-map, length-take, length-replicate) (omega arith)
-
-pub past-name : (w : ℕ) (name : List ℕ) {at next : ℕ} {l o : List ℕ} → Stored (name-column w name) at l next o → next ≡ at + w
-past-name w name s = omega (arith, s .past, name-length w name)
-
-name-rest : (w b : ℕ) (name : List ℕ) → name-column (suc w) (b ∷ name) ≡ shown b ∷ name-column w name
-unfolding name-column
-name-rest w b name =
-    ap (λ (n : ℕ). shown b ∷ map shown (take w name) ++ replicate n 32) (suc-sub-suc w (length name))
-
-name-inside : (w : ℕ) (name : List ℕ) (i : ℕ) → i < w → i < length name → getD (name-column w name) i 0 ≡ shown (getD name i 0)
-unfolding name-column
-name-inside zero name i h k = absurd (omega arith)
-name-inside (suc w) [] i h k = absurd (omega arith)
-name-inside (suc w) (b ∷ name) zero h k = refl
-name-inside (suc w) (b ∷ name) (suc i) h k = rw (name-rest w b name) (name-inside w name i (omega arith) (omega arith))
-
-name-past : (w : ℕ) (name : List ℕ) (i : ℕ) → i < w → length name ≤ i → getD (name-column w name) i 0 ≡ 32
-unfolding name-column
-name-past zero name i h k = absurd (omega arith)
-name-past (suc w) [] i h k = getD-replicate (suc w - 0) i 32 0 (omega arith)
-name-past (suc w) (b ∷ name) zero h k = absurd (omega arith)
-name-past (suc w) (b ∷ name) (suc i) h k = rw (name-rest w b name) (name-past w name i (omega arith) (omega arith))
-
-name-byte : (w : ℕ) (name : List ℕ) (i : ℕ) → i < w → getD (name-column w name) i 0 ≡ byte-of name i
-name-byte w name i h = ⊎-elim
-    (λ (k : i < length name). rw (lt-ltb i (length name) k) (name-inside w name i h k))
-    (λ (k : length name ≤ i). rw (le-ltb i (length name) k) (name-past w name i h k))
-    (lt-or-ge i (length name))
-
-pub name-step : (w : ℕ) (name : List ℕ) (i : ℕ) → i < w
-    → drop i (name-column w name) ≡ byte-of name i ∷ drop (i + 1) (name-column w name)
-name-step w name i h =
-    let e = name-length w name in
-    drop-step (name-column w name) i 0 (omega arith) ∙ ap (λ b. b ∷ drop (i + 1) (name-column w name)) (name-byte w name i h)

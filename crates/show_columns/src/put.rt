@@ -1,11 +1,13 @@
-// Numbers and names in columns, stored from an offset on. Each returns the offset past what it stored.
+// Numbers and names in columns, stored from an offset on. Each `put_` returns the offset past what it stored.
+use utf8::prefix::first_characters;
 ghost use mathlib.Core.Path.{_≡_};
-ghost use Prim.Native.Nat.{_+_, _≤_, _<_};
-ghost use lib.ListN.{length};
+ghost use mathlib.Core.List.{map};
+ghost use Prim.Native.Nat.{_+_, _^_, _≤_, _<_};
+ghost use lib.ListN.{length, take, replicate};
 ghost use Rattle.common.specs.Slices.{was, left};
 ghost use Rattle.common.specs.Stores.{Stored};
 ghost use Rattle.calls.specs.Listing.{shown as shown-byte, column, name-column};
-ghost use Rattle.show_columns.specs.Steps.{digit-of, byte-of};
+ghost use Rattle.show_columns.specs.Steps.{digit-of};
 
 // The byte in front of the digits that are stored: the last digit of the rest of the number, or a space.
 fn digit(rest: u64) -> u8
@@ -33,7 +35,7 @@ pub fn put_number(out: &mut [u8], at: usize, n: u64) -> usize
     at + 10
 }
 
-// A byte as it prints.
+// A byte as it prints. What prints as ? has one byte, and no byte of a longer character is below 128: so a name is shown byte by byte.
 fn shown(b: u8) -> u8
     ensures { λ r. ⌜ r ≡ shown-byte b ⌝ }
 {
@@ -43,25 +45,47 @@ fn shown(b: u8) -> u8
     b
 }
 
-// The byte of a name in a column, or the space past its end.
-fn name_byte(name: &[u8], i: usize) -> u8
-    ensures { λ r. ⌜ r ≡ byte-of (was name) i ⌝ }
-{
-    if name.len() <= i {
-        return 32;
-    }
-    shown(name[i])
-}
-
-// A name, cut or padded with spaces to `width` bytes.
-pub fn put_name(out: &mut [u8], at: usize, name: &[u8], width: usize) -> usize
-    requires { ⌜ at + width ≤ length (now out) ⌝ }
-    ensures { λ r. ⌜ Stored (name-column width (was name)) at (was out) r (left out) ⌝ }
+// The first `count` bytes as they print.
+fn put_shown(out: &mut [u8], at: usize, s: &[u8], count: usize) -> usize
+    requires { ⌜ (count ≤ length (now s)) × (at + count ≤ length (now out)) ⌝ }
+    ensures { λ r. ⌜ Stored (map shown-byte (take count (was s))) at (was out) r (left out) ⌝ }
 {
     let mut i: usize = 0;
-    while i < width {
-        out[at + i] = name_byte(name, i);
+    while i < count {
+        out[at + i] = shown(s[i]);
         i += 1;
     }
-    at + width
+    at + count
+}
+
+// Spaces.
+fn put_spaces(out: &mut [u8], at: usize, count: usize) -> usize
+    requires { ⌜ at + count ≤ length (now out) ⌝ }
+    ensures { λ r. ⌜ Stored (replicate count 32) at (was out) r (left out) ⌝ }
+{
+    let mut i: usize = 0;
+    while i < count {
+        out[at + i] = 32;
+        i += 1;
+    }
+    at + count
+}
+
+// How many bytes a name's column has.
+pub fn name_len(name: &[u8], width: usize) -> usize
+    requires { ⌜ width < 2 ^ 32 ⌝ }
+    ensures { λ r. ⌜ r ≡ length (name-column width (was name)) ⌝ }
+{
+    let first = first_characters(name, width);
+    first.octets + (width - first.characters)
+}
+
+// A name, cut or padded with spaces to `width` characters.
+pub fn put_name(out: &mut [u8], at: usize, name: &[u8], width: usize) -> usize
+    requires { ⌜ at + length (name-column width (now name)) ≤ length (now out) ⌝ }
+    ensures { λ r. ⌜ Stored (name-column width (was name)) at (was out) r (left out) ⌝ }
+{
+    let first = first_characters(name, width);
+    let past = put_shown(out, at, name, first.octets);
+    put_spaces(out, past, width - first.characters)
 }

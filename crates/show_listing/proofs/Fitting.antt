@@ -18,7 +18,8 @@ use Rattle.calls.specs.Listing.{column, name-column, count-line, document-lines
 use Rattle.calls.specs.Listing.{listing, list-into}
 use Rattle.show_listing.specs.Promise.{Listed-into, Listed-whole}
 use Rattle.show_listing.specs.Claims.{Listing-fits}
-use Rattle.show_columns.proofs.Columns.{column-most, name-length}
+use Rattle.show_columns.proofs.Columns.{column-most}
+use Rattle.show_columns.proofs.Names.{name-most}
 use Rattle.show_listing.proofs.Texts.{pair-length, document-lines-length}
 
 refusal-most : (x : Refusal) → length (refusal-line x) ≤ 61
@@ -37,19 +38,19 @@ refusal-most x =
       length-append (one ++ two ++ three) (10 ∷ []),
     )
 
-entry-most : (e : Entry) → length (entry-line e) ≤ 37
+entry-most : (e : Entry) → length (entry-line e) ≤ 85
 unfolding entry-line
 entry-most e =
     let name = name-column 16 (e .name) in
     omega (
       arith,
-      name-length 16 (e .name),
+      name-most 16 (e .name),
       column-most (e .df),
       length-append name (column (e .df)),
       length-append (name ++ column (e .df)) (10 ∷ []),
     )
 
-entries-most : (es : List Entry) → length (entry-lines es) ≤ 37 * length es
+entries-most : (es : List Entry) → length (entry-lines es) ≤ 85 * length es
 unfolding entry-lines
 entries-most [] = omega arith
 entries-most (e ∷ es) = omega (arith, entry-most e, entries-most es, length-append (entry-line e) (entry-lines es))

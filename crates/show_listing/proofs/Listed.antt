@@ -31,9 +31,8 @@ use Rattle.show_listing.specs.Steps.{Text-listed, Segment-listed, entry-
 use Rattle.show_listing.specs.Promise.{Listed-into}
 use Rattle.common.proofs.Stores.{stored-append}
 use Rattle.show_columns.proofs.Columns.{column-length}
-use Rattle.show_listing.proofs.Widths.{bytes-between}
 use Rattle.show_listing.proofs.Indices.{index-small}
-use Rattle.show_listing.proofs.Texts.{pair-length, document-lines-length, entry-lines-length, entry-lines-are}
+use Rattle.show_listing.proofs.Texts.{pair-length, document-lines-length, entry-lines-are}
 
 -- ---- with room, and without
 
@@ -89,13 +88,12 @@ module _ {bytes : List ℕ} {l : Layout} {s : Segment} (o : Is-open bytes l s) w
   pub held-length : length (held-documents (l .documents) none (cut bytes l .metadata)) ≡ l .documents
   held-length = ap length (o .documents) ∙ o .document-count
 
-  pub text-length : Bytes bytes → l .documents < 10000000000 → l .terms < 10000000000
-      → length (text-of (ok s)) ≡ 21 + l .documents * 21 + l .terms * 27
-  text-length b d t =
+  pub text-length : l .documents < 10000000000 → l .terms < 10000000000
+      → length (text-of (ok s)) ≡ 21 + l .documents * 21 + length terms
+  text-length d t =
       let held = held-documents (l .documents) none (cut bytes l .metadata) in
       let one = pair-length (l .documents) (l .terms) d t in
       let two = document-lines-length 0 held (held-rise (l .documents) none (cut bytes l .metadata)) in
-      let three = entry-lines-length (cut bytes l .directory) (cut bytes l .names) (bytes-between 72 (l .names) b) (l .terms) 0 in
       omega (arith, ap length text, length-append (counts ++ documents) terms, length-append counts documents, held-length)
 
   pub segment-stored : {out o₁ o₂ o₃ : List ℕ} {n₁ n₂ n₃ : ℕ} → Stored counts 0 out n₁ o₁ → Stored documents n₁ o₁ n₂ o₂

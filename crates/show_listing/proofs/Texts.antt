@@ -15,13 +15,15 @@ use Rattle.segment.specs.Records.{Document, Entry, field, between}
 use Rattle.segment.specs.Metadata.{document}
 use Rattle.read_cursors.specs.Held.{rest-of}
 use Rattle.read_cursors.specs.Steps.{documents-at, documents-from}
-use Rattle.read_open.specs.Steps.{entry-at}
+use Rattle.read_open.specs.declared.directory.NameRange.{NameRange}
+use Rattle.read_open.specs.Steps.{name-at, entry-at, Entry-inside}
 use Rattle.read_open.specs.Opened.{no-entry}
 use Rattle.read_cursors.proofs.Documents-held.{Rising}
 use Rattle.calls.specs.Listing.{column, name-column, document-line, document-lines, entry-line, entry-lines}
-use Rattle.show_listing.specs.Steps.{entry-lines-at}
+use Rattle.show_listing.specs.Steps.{name-range, entry-lines-at}
 use Rattle.common.proofs.Stores.{stored-append}
-use Rattle.show_columns.proofs.Columns.{column-length, name-length}
+use Rattle.show_columns.proofs.Columns.{column-length}
+use Rattle.show_columns.proofs.Names.{name-most}
 use Rattle.show_listing.proofs.Widths.{field-small}
 
 -- ---- lengths
@@ -43,21 +45,24 @@ document-lines-length low (d ∷ ds) r =
     let more = document-lines-length (suc (d .id)) ds (r .3) in
     omega (arith, length-append line (document-lines ds))
 
-entry-line-length : (e : Entry) → e .df < 10000000000 → length (entry-line e) ≡ 27
+entry-line-length : (e : Entry) → e .df < 10000000000 → length (entry-line e) ≡ length (name-column 16 (e .name)) + 11
 unfolding entry-line
-entry-line-length e h = simp (length-append, name-length 16 (e .name), column-length (e .df) h)
+entry-line-length e h = simp (length-append, column-length (e .df) h) (omega arith)
 
 module _ (dir names : List ℕ) where
-  pub entry-at-length : Bytes dir → (i : ℕ) → length (entry-line (entry-at dir names [] i)) ≡ 27
+  pub entry-at-length : Bytes dir → (i : ℕ)
+      → length (entry-line (entry-at dir names [] i)) ≡ length (name-column 16 (name-at dir names i)) + 11
   entry-at-length b i = entry-line-length (entry-at dir names [] i) (omega (arith, field-small (i * 32 + 24) b))
 
-  pub entry-lines-length : Bytes dir → (n i : ℕ) → length (entry-lines-at dir names n i) ≡ 27 * n
+  pub entry-at-most : Bytes dir → (i : ℕ) → length (entry-line (entry-at dir names [] i)) ≤ 75
+  entry-at-most b i = omega (arith, entry-at-length b i, name-most 16 (name-at dir names i))
+
+  pub entry-lines-most : Bytes dir → (n i : ℕ) → length (entry-lines-at dir names n i) ≤ 75 * n
   unfolding entry-lines-at
-  entry-lines-length b zero i = refl
-  entry-lines-length b (suc n) i =
+  entry-lines-most b zero i = omega arith
+  entry-lines-most b (suc n) i =
       let line = entry-line (entry-at dir names [] i) in
-      let more = entry-lines-length b n (suc i) in
-      omega (arith, entry-at-length b i, length-append line (entry-lines-at dir names n (suc i)))
+      omega (arith, entry-at-most b i, entry-lines-most b n (suc i), length-append line (entry-lines-at dir names n (suc i)))
 
   -- ---- the terms' lines: one after another, and those of the entries read there
 
@@ -65,6 +70,13 @@ module _ (dir names : List ℕ) where
       → entry-lines-at dir names (n - i) i ≡ entry-line (entry-at dir names [] i) ++ entry-lines-at dir names (n - (i + 1)) (i + 1)
   unfolding entry-lines-at
   entry-lines-next n i h = rw (left-suc n i h, add-one i)
+
+  pub entry-lines-less : (n i : ℕ) → i < n
+      → length (entry-lines-at dir names (n - i) i)
+      ≡ length (entry-line (entry-at dir names [] i)) + length (entry-lines-at dir names (n - (i + 1)) (i + 1))
+  entry-lines-less n i h =
+      ap length (entry-lines-next n i h)
+      ∙ length-append (entry-line (entry-at dir names [] i)) (entry-lines-at dir names (n - (i + 1)) (i + 1))
 
   pub entry-lines-end : (n i : ℕ) → n ≤ i → entry-lines-at dir names (n - i) i ≡ []
   unfolding entry-lines-at
@@ -82,15 +94,36 @@ module _ (dir names : List ℕ) where
       (ap entry-line first)
       (entry-lines-are lists es (suc k) (λ i q. h (suc i) (omega arith) ∙ ap (entry-at dir names lists) (later i)))
 
--- a term's line, from the entry's fields as they are read
-pub entry-stored : (dir names : List ℕ) (i : ℕ) {start size df at n n′ n″ : ℕ} {l o o′ o″ : List ℕ}
-    → start ≡ field 4 (i * 32) dir → size ≡ field 4 (i * 32 + 4) dir → df ≡ field 4 (i * 32 + 24) dir
-    → Stored (name-column 16 (between start (start + size) names)) at l n o → Stored (column df) n o n′ o′ → Stored (10 ∷ []) n′ o′ n″ o″
-    → Stored (entry-line (entry-at dir names [] i)) at l n″ o″
-unfolding entry-line
-entry-stored dir names i {start} {size} is-start is-size is-df a b c =
-    let e : start + size - start ≡ size = omega arith in
-    rw (← is-start, ← is-size, ← is-df) (stored-append (stored-append (rw e at a) b) c)
+-- a term's line, from where its name lies
+pub name-range-is : (dir : List ℕ) (i : ℕ) {start size : ℕ} → start ≡ field 4 (i * 32) dir → size ≡ field 4 (i * 32 + 4) dir
+    → _≡_ {A = NameRange} (record { start = start; end = start + size }) (name-range dir i)
+name-range-is dir i e f = rw (e, f)
+
+pub name-len-most : (name : List ℕ) {n : ℕ} → n ≡ length (name-column 16 name) → n ≤ 64
+name-len-most name e = omega (arith, e, name-most 16 name)
+
+module _ (dir names : List ℕ) (i : ℕ) {r : NameRange} (is : r ≡ name-range dir i) where
+  pub name-inside : Entry-inside dir names i → (r .start ≤ r .end) × (r .end ≤ length names)
+  name-inside h = omega (arith, ap (λ (n : NameRange). n .start) is, ap (λ (n : NameRange). n .end) is, h .name)
+
+  pub name-between : between (r .start) (r .end) names ≡ name-at dir names i
+  name-between =
+      let start = field 4 (i * 32) dir in
+      let size = field 4 (i * 32 + 4) dir in
+      let e : start + size - start ≡ size = omega arith in
+      rw (is, e)
+
+  pub entry-size-is : Bytes dir → {n : ℕ} → n ≡ length (name-column 16 (between (r .start) (r .end) names))
+      → n + 11 ≡ length (entry-line (entry-at dir names [] i))
+  entry-size-is b {n} e =
+      let same : n ≡ length (name-column 16 (name-at dir names i)) = e ∙ ap (λ l. length (name-column 16 l)) name-between in
+      omega (arith, same, entry-at-length dir names b i)
+
+  pub entry-stored : {df at n n′ n″ : ℕ} {l o o′ o″ : List ℕ} → df ≡ field 4 (i * 32 + 24) dir
+      → Stored (name-column 16 (between (r .start) (r .end) names)) at l n o → Stored (column df) n o n′ o′ → Stored (10 ∷ []) n′ o′ n″ o″
+      → Stored (entry-line (entry-at dir names [] i)) at l n″ o″
+  unfolding entry-line
+  entry-stored is-df a b c = rw (← is-df, ← name-between) (stored-append (stored-append a b) c)
 
 -- ---- the documents' lines, from a cursor
 

@@ -1,6 +1,7 @@
 // The text of a listing.
 use common::widths::long;
 use read_cursors::documents::Documents;
+use read_open::directory::NameRange;
 use read_open::header::Layout;
 use read_open::header::Opening;
 use read_open::open_segment::open_layout;
@@ -11,18 +12,22 @@ use segment::refusal::Refusal;
 use segment::refusal::no_room;
 use segment::refusal::too_large;
 use segment::replies::Counted;
+use show_columns::put::name_len;
 use show_columns::put::put_name;
 use show_columns::put::put_number;
+ghost use mathlib.Core.Path.{_≡_};
 ghost use mathlib.Core.List.{[], _∷_, _++_};
 ghost use mathlib.Core.Option.{none};
-ghost use Prim.Native.Nat.{_+_, _*_, _≤_, _<_};
+ghost use Prim.Native.Nat.{_+_, _*_, _^_, _≤_, _<_};
 ghost use lib.ListN.{length};
 ghost use Rattle.common.specs.Slices.{was, left};
 ghost use Rattle.common.specs.Stores.{Stored};
+ghost use Rattle.segment.specs.Records.{entry-size};
 ghost use Rattle.read_cursors.specs.Held.{held-documents};
 ghost use Rattle.read_open.specs.Steps.{entry-at, Entry-inside};
 ghost use Rattle.calls.specs.Listing.{column, document-lines, entry-line};
-ghost use Rattle.show_listing.specs.Steps.{Entries-room, entry-lines-at, Refusal-listed, Segment-listed};
+ghost use Rattle.show_listing.specs.Steps.{name-range, entry-lines-at, Line-room, Entries-inside, Entries-room};
+ghost use Rattle.show_listing.specs.Steps.{Refusal-listed, Segment-listed};
 ghost use Rattle.read_open.specs.Opened.{Opened-as};
 ghost use Rattle.show_listing.specs.Promise.{Listed-into};
 
@@ -60,16 +65,59 @@ fn put_documents(meta: &[u8], count: u32, out: &mut [u8], at: usize) -> usize
     next
 }
 
-// A term's line: its name and its df.
-fn put_entry(dir: &[u8], names: &[u8], i: usize, out: &mut [u8], at: usize) -> usize
-    requires { ⌜ Entry-inside (now dir) (now names) i × (at + 27 ≤ length (now out)) ⌝ }
-    ensures { λ r. ⌜ Stored (entry-line (entry-at (was dir) (was names) [] i)) at (was out) r (left out) ⌝ }
+// How many characters of a name are shown.
+const NAME_WIDTH: usize = 16;
+
+// Where a term's name lies in the section of term bytes.
+fn entry_name(dir: &[u8], i: usize) -> NameRange
+    requires { ⌜ i * entry-size + entry-size ≤ length (now dir) ⌝ }
+    ensures { λ r. ⌜ r ≡ name-range (was dir) i ⌝ }
 {
     let place = i * ENTRY_SIZE;
     let start = long(read_u32_at(dir, place));
     let end = start + long(read_u32_at(dir, place + 4));
-    let past = put_name(out, at, &names[start..end], 16);
-    let last = put_number(out, past, read_u32_at(dir, place + 24) as u64);
+    NameRange {
+        start: start,
+        end: end,
+    }
+}
+
+// How many bytes a term's line has.
+fn entry_len(dir: &[u8], names: &[u8], i: usize) -> usize
+    requires { ⌜ Entry-inside (now dir) (now names) i ⌝ }
+    ensures { λ r. ⌜ r ≡ length (entry-line (entry-at (was dir) (was names) [] i)) ⌝ }
+{
+    let name = entry_name(dir, i);
+    let start = name.start;
+    let end = name.end;
+    name_len(&names[start..end], NAME_WIDTH) + 11
+}
+
+// How many bytes the terms' lines have.
+fn entries_len(dir: &[u8], names: &[u8], terms: usize) -> usize
+    requires { ⌜ Entries-inside (now dir) (now names) terms × (terms < 2 ^ 32) ⌝ }
+    ensures { λ r. ⌜ r ≡ length (entry-lines-at (was dir) (was names) terms 0) ⌝ }
+{
+    let mut size: usize = 0;
+    let mut i: usize = 0;
+    while i < terms {
+        size += entry_len(dir, names, i);
+        i += 1;
+    }
+    size
+}
+
+// A term's line: its name and its df.
+fn put_entry(dir: &[u8], names: &[u8], i: usize, out: &mut [u8], at: usize) -> usize
+    requires { ⌜ Entry-inside (now dir) (now names) i × Line-room (now dir) (now names) i (now out) at ⌝ }
+    ensures { λ r. ⌜ Stored (entry-line (entry-at (was dir) (was names) [] i)) at (was out) r (left out) ⌝ }
+{
+    let name = entry_name(dir, i);
+    let start = name.start;
+    let end = name.end;
+    let past = put_name(out, at, &names[start..end], NAME_WIDTH);
+    let df = read_u32_at(dir, i * ENTRY_SIZE + 24);
+    let last = put_number(out, past, df as u64);
     put_end(out, last)
 }
 
@@ -108,13 +156,15 @@ fn list_segment(bytes: &[u8], at: Layout, out: &mut [u8]) -> Counted
 {
     let documents = long(at.documents);
     let terms = long(at.terms);
-    let needed = 21 + documents * 21 + terms * 27;
-    if out.len() < needed {
-        return Counted::Refused(no_room(1, needed));
-    }
     let names = at.names;
     let metadata = at.metadata;
     let lists = at.lists;
+    // Measured before anything is stored: 13 has the whole text's length, and leaves the slice as it was.
+    let lines = entries_len(&bytes[HEADER_SIZE..names], &bytes[names..metadata], terms);
+    let needed = 21 + documents * 21 + lines;
+    if out.len() < needed {
+        return Counted::Refused(no_room(1, needed));
+    }
     let next = put_pair(out, 0, at.documents, at.terms);
     let next = put_documents(&bytes[metadata..lists], at.documents, out, next);
     Counted::Count(put_entries(

@@ -92,7 +92,7 @@ stop (b ∷ l) h e = rw e
 
 -- At a place, from the answer k for the character's length
 module _ (s : List ℕ) (at : ℕ) {k : ℕ} (is : k ≡ char-length (drop at s)) where
-  pub char-le : at < length s → at + k ≤ length s
+  pub char-le : at ≤ length s → at + k ≤ length s
   unfolding char-length
   char-le h = omega (arith, is, first-le sequences (drop at s), length-drop at s)
 

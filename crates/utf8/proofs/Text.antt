@@ -17,19 +17,19 @@ use Rattle.common.proofs.Loops.{lt-or-ge, and-left, and-right, true-false}
 use Rattle.utf8.proofs.Ranges.{next}
 
 -- The octets of a value, by its size
-octets1 : (v : ℕ) → v ≤ 0x7F → octets v ≡ v ∷ []
+pub octets1 : (v : ℕ) → v ≤ 0x7F → octets v ≡ v ∷ []
 unfolding octets
 octets1 v h = rw (lt-ltb v 0x80 (omega arith))
 
-octets2 : (v : ℕ) → 0x80 ≤ v → v ≤ 0x7FF → octets v ≡ (0xC0 + v / 64) ∷ (0x80 + v % 64) ∷ []
+pub octets2 : (v : ℕ) → 0x80 ≤ v → v ≤ 0x7FF → octets v ≡ (0xC0 + v / 64) ∷ (0x80 + v % 64) ∷ []
 unfolding octets
 octets2 v h k = rw (le-ltb v 0x80 h, lt-ltb v 0x800 (omega arith))
 
-octets3 : (v : ℕ) → 0x800 ≤ v → v ≤ 0xFFFF → octets v ≡ (0xE0 + v / 4096) ∷ (0x80 + v / 64 % 64) ∷ (0x80 + v % 64) ∷ []
+pub octets3 : (v : ℕ) → 0x800 ≤ v → v ≤ 0xFFFF → octets v ≡ (0xE0 + v / 4096) ∷ (0x80 + v / 64 % 64) ∷ (0x80 + v % 64) ∷ []
 unfolding octets
 octets3 v h k = rw (le-ltb v 0x80 (omega arith), le-ltb v 0x800 h, lt-ltb v 0x10000 (omega arith))
 
-octets4 : (v : ℕ) → 0x10000 ≤ v
+pub octets4 : (v : ℕ) → 0x10000 ≤ v
     → octets v ≡ (0xF0 + v / 262144) ∷ (0x80 + v / 4096 % 64) ∷ (0x80 + v / 64 % 64) ∷ (0x80 + v % 64) ∷ []
 unfolding octets
 octets4 v h = rw (le-ltb v 0x80 (omega arith), le-ltb v 0x800 (omega arith), le-ltb v 0x10000 h)
@@ -58,12 +58,12 @@ passes (r ∷ rs) [] m = absurd m
 passes (r ∷ rs) (b ∷ l) (h, k, m) = rw (le-leb (r .low) b h, le-leb b (r .high) k) (passes rs l m)
 
 -- A list that starts with the n octets of a scalar value
-record Char (l : List ℕ) (n : ℕ) : Type 0 where
-  value : ℕ
-  rest : List ℕ
-  scalar : Scalar value
-  size : length (octets value) ≡ n
-  encoded : l ≡ octets value ++ rest
+pub record Char (l : List ℕ) (n : ℕ) : Type 0 where
+  pub value : ℕ
+  pub rest : List ℕ
+  pub scalar : Scalar value
+  pub size : length (octets value) ≡ n
+  pub encoded : l ≡ octets value ++ rest
 
 char : (bs : List ℕ) (v : ℕ) (rest : List ℕ) → Scalar v → octets v ≡ bs → Char (bs ++ rest) (length bs)
 char bs v rest s e = record { value = v; rest = rest; scalar = s; size = ap length e; encoded = rw e }
@@ -145,16 +145,16 @@ row4 {r} {s} {low} {high} scalars t =
         char (a ∷ b ∷ c ∷ d ∷ []) v rest (scalars v (i .0) (i .1)) (octets4 v (omega arith) ∙ (cc))
 
 -- No scalar value from a value on has its octets at the front of a list
-abbrev Nothing : ℕ → List ℕ → Type 0
+abbrev pub Nothing : ℕ → List ℕ → Type 0
 Nothing low l = (v : ℕ) (rest : List ℕ) → Scalar v → low ≤ v → l ≡ octets v ++ rest → ⊥
 
 -- What is taken from a list: n octets of a scalar value, or nothing where it starts with none
-abbrev Taken : ℕ → List ℕ → ℕ → Type 0
+abbrev pub Taken : ℕ → List ℕ → ℕ → Type 0
 Taken low l n = ((n ≡ 0) × Nothing low l) ⊎ Char l n
 
 -- Rows of the grammar that take the scalar values from a value on
-record Rows (low : ℕ) (qs : List (List Range)) : Type 0 where
-  first : (l : List ℕ) → Taken low l (first-of qs l)
+pub record Rows (low : ℕ) (qs : List (List Range)) : Type 0 where
+  pub first : (l : List ℕ) → Taken low l (first-of qs l)
 
 end : Rows 0x110000 []
 unfolding first-of
@@ -186,7 +186,7 @@ row {q} {qs} {low} {high} r rs = record { first = λ l. pick l (starts q l) refl
         )
     pick l false e (inr x) = inr x
 
-rows : Rows 0 sequences
+pub rows : Rows 0 sequences
 unfolding sequences
 rows =
     row row1
@@ -205,7 +205,7 @@ rows =
 abbrev width : ℕ → ℕ
 width b = 1 + min 1 (b - 0xBF) + min 1 (b - 0xDF) + min 1 (b - 0xEF)
 
-octets-width : (v : ℕ) (rest : List ℕ) → length (octets v) ≡ width (getD (octets v ++ rest) 0 0)
+pub octets-width : (v : ℕ) (rest : List ℕ) → length (octets v) ≡ width (getD (octets v ++ rest) 0 0)
 octets-width v rest =
     ⊎-elim
     (λ (h : v < 0x80). rw (octets1 v (omega arith)) (omega arith))
@@ -220,7 +220,7 @@ octets-width v rest =
     (lt-or-ge v 0x800))
     (lt-or-ge v 0x80)
 
-octets-length : (v : ℕ) (rest : List ℕ) → Scalar v → char-length (octets v ++ rest) ≡ length (octets v)
+pub octets-length : (v : ℕ) (rest : List ℕ) → Scalar v → char-length (octets v ++ rest) ≡ length (octets v)
 unfolding char-length
 octets-length v rest s = only (rows .first (octets v ++ rest))
   where

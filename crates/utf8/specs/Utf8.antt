@@ -1,11 +1,11 @@
--- UTF-8 (RFC 3629): section 3 as what a text is, section 4 (the ABNF) as a test that computes. specs/Claims.antt: they agree.
-use Prim.Native.Nat.{ℕ, zero, suc, _+_, _/_, _%_, _≤_, _<_}
+-- UTF-8 (RFC 3629): section 3 as what a text is, section 4 (the ABNF) as a test that computes, and decoding. specs/Claims.antt: they agree.
+use Prim.Native.Nat.{ℕ, zero, suc, _+_, _-_, _*_, _/_, _%_, _≤_, _<_}
 use mathlib.Core.Path.{_≡_}
 use mathlib.Core.List.{List, [], _∷_, _++_}
 use mathlib.Core.Bool.{Bool, true, false, cond, _&&_}
 use mathlib.Core.Logic.{_⊎_}
 use lib.Dec.{ltb, leb}
-use lib.ListN.{length}
+use lib.ListN.{length, take}
 
 -- Section 3: a Unicode scalar value, 0 to 10FFFF without the surrogates D800 to DFFF (hex)
 abbrev pub Scalar : ℕ → Type 0
@@ -92,3 +92,28 @@ characters (suc k) (b ∷ bytes) = characters k bytes
 
 unfoldable pub utf8 : List ℕ → Bool
 utf8 bytes = characters 0 bytes
+
+-- Section 3, decoding: the scalar value of one character's octets, the bits marked x in the row for as many octets put together; no
+-- character has other numbers of octets
+unfoldable pub value : List ℕ → ℕ
+value [] = 0
+value (a ∷ []) = a
+value (a ∷ b ∷ []) = (a - 0xC0) * 64 + (b - 0x80)
+value (a ∷ b ∷ c ∷ []) = (a - 0xE0) * 4096 + (b - 0x80) * 64 + (c - 0x80)
+value (a ∷ b ∷ c ∷ d ∷ []) = (a - 0xF0) * 262144 + (b - 0x80) * 4096 + (c - 0x80) * 64 + (d - 0x80)
+value (a ∷ b ∷ c ∷ d ∷ e ∷ rest) = 0
+
+-- The value of a character of so many octets, then the values after it; none where there is no character
+abbrev pub value-then : ℕ → List ℕ → (ℕ → List ℕ) → List ℕ
+value-then zero bytes f = []
+value-then (suc k) bytes f = value (take (suc k) bytes) ∷ f k
+
+-- Decoding: the characters of a text, as scalar values in their order; of other bytes those in front of the first that start none. k octets
+-- of a character are still to pass
+unfoldable pub decoded-from : ℕ → List ℕ → List ℕ
+decoded-from k [] = []
+decoded-from zero (b ∷ bytes) = value-then (char-length (b ∷ bytes)) (b ∷ bytes) (λ k. decoded-from k bytes)
+decoded-from (suc k) (b ∷ bytes) = decoded-from k bytes
+
+unfoldable pub decoded : List ℕ → List ℕ
+decoded bytes = decoded-from 0 bytes

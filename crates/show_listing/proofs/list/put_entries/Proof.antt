@@ -1,21 +1,20 @@
 use mathlib.Core.Path.{_≡_, refl, sym, ap, _∙_}
-use Prim.Native.Nat.{_+_, _-_, _*_, _≤_}
+use Prim.Native.Nat.{_+_, _-_, _≤_}
 use native.Mathlib.Omega.{arith}
 use lib.ListN.{length}
 use lib.Seq.{sets}
 use denote.Ref.{now}
 use borrow.Author.Needs.{needs}
-use Rattle.common.proofs.Bytes.{each-below}
 use Rattle.show_listing.specs.Steps.{entry-lines-at}
 use Rattle.common.proofs.Stores.{stored-length, stored-on}
-use Rattle.show_listing.proofs.Texts.{entry-at-length, entry-lines-next, entry-lines-end, entry-lines-length}
+use Rattle.show_listing.proofs.Texts.{entry-lines-next, entry-lines-less, entry-lines-end}
 use Rattle.show_listing.proofs.list.put_entries.Statement.{statement}
 use Rattle.show_listing.proofs.list.put_entries.Tie as tie
 
 abbrev Inv-loop : tie.InvT-loop
 Inv-loop dir names terms out₀ at next₀ i₀ out next i =
     (i ≤ terms)
-    × (next ≡ at + 27 * i)
+    × (next + length (entry-lines-at dir names (terms - i) i) ≡ at + length (entry-lines-at dir names terms 0))
     × (length out ≡ length out₀)
     × (sets out next (entry-lines-at dir names (terms - i) i) ≡ sets out₀ at (entry-lines-at dir names terms 0))
 
@@ -25,13 +24,15 @@ abbrev μ-loop : tie.MeasureT-loop
 loop-holds : tie.Need-loop-holds Inv-loop μ-loop
 loop-holds c =
     let none : c .before .before .before .args .terms - 0 ≡ c .before .before .before .args .terms = omega arith in
-    (omega arith, omega arith, refl, rw none)
+    (omega arith, rw none, refl, rw none)
 
 put-entry-requires : tie.Need-put-entry-requires Inv-loop μ-loop
 put-entry-requires c κs =
     let l = c .before .before .loop in
     let start = c .before .before .before .before .before .before in
-    (start .pre .inside (l .i) (omega arith), omega (arith, start .pre .room))
+    let a = start .args in
+    let next = entry-lines-less (now (a .dir)) (now (a .names)) (a .terms) (l .i) (omega arith) in
+    (start .pre .inside (l .i) (omega arith), omega (arith, start .pre .room, l .inv .1, next))
 
 add-i : tie.Need-add-i Inv-loop μ-loop
 add-i c = search needs
@@ -43,11 +44,9 @@ loop-again : tie.Need-loop-again Inv-loop μ-loop
 loop-again c =
     let l = c .before .before .before .before .before .loop in
     let a = c .before .before .before .before .before .before .before .before .before .args in
-    let start = c .before .before .before .before .before .before .before .before in
-    let b = each-below (now (a .dir)) (λ i. omega (arith, start .shared-slice-known .given i)) in
     let stored = c .before .before .put-entry .ensures in (
       omega arith,
-      omega (arith, stored .past, entry-at-length (now (a .dir)) (now (a .names)) b (l .i)),
+      omega (arith, stored .past, l .inv .1, entry-lines-less (now (a .dir)) (now (a .names)) (a .terms) (l .i) (omega arith)),
       stored-length stored ∙ l .inv .2,
       stored-on (entry-lines-at (now (a .dir)) (now (a .names)) (a .terms - (l .i + 1)) (l .i + 1)) stored
           (ap (sets (l .out) (l .next)) (sym (entry-lines-next (now (a .dir)) (now (a .names)) (a .terms) (l .i) (omega arith)))
@@ -60,13 +59,9 @@ same-length c = c .before .loop .inv .2
 returns : tie.Need-returns Inv-loop μ-loop
 returns c =
     let l = c .before .loop in
-    let start = c .before .before .before .before in
-    let a = start .before .args in
-    let b = each-below (now (a .dir)) (λ i. omega (arith, start .shared-slice-known .given i)) in
-    record {
-      past = omega (arith, entry-lines-length (now (a .dir)) (now (a .names)) b (a .terms) 0);
-      left = rw (entry-lines-end (now (a .dir)) (now (a .names)) (a .terms) (l .i) (omega arith)) at (l .inv .3);
-    }
+    let a = c .before .before .before .before .before .args in
+    let none = entry-lines-end (now (a .dir)) (now (a .names)) (a .terms) (l .i) (omega arith) in
+    record { past = omega (arith, l .inv .1, ap length none); left = rw none at (l .inv .3) }
 
 pub put-entries-spec : {M : Type 1} → statement M
 put-entries-spec =
