@@ -7,7 +7,7 @@ use Rattle.segment.specs.Metadata.{document}
 use Rattle.segment.specs.Texts.{names}
 use denote.Ref.{RefT}
 use denote.Triple.Both.{Both}
-use Rattle.common.specs.Slices.{was}
+use Rattle.common.specs.Slices.{was, left}
 use Rattle.common.specs.Lists.{paired, parts, joined}
 
 -- in the order in which the writer takes them
@@ -38,6 +38,11 @@ lists i l t e pc pi kc ps = record {
 abbrev pub given-lists : {Y : Type 0}
     → (ids lengths text ends posting-counts posting-ids position-counts positions : Both (RefT (List ℕ)) Y) → Lists
 given-lists i l t e pc pi kc ps = lists (was i) (was l) (was t) (was e) (was pc) (was pi) (was kc) (was ps)
+
+-- the eight as slices that a call was lent, afterwards
+abbrev pub left-lists : {X : Type 0}
+    → (ids lengths text ends posting-counts posting-ids position-counts positions : Both X (RefT (List ℕ))) → Lists
+left-lists i l t e pc pi kc ps = lists (left i) (left l) (left t) (left e) (left pc) (left pi) (left kc) (left ps)
 
 abbrev pub posting : ℕ → List ℕ → Posting
 posting d ps = record { doc = d; positions = ps }

@@ -1,4 +1,4 @@
--- Document 01's refusals: kind, which, index. Every number is here, once.
+-- The refusals of documents 01 and 02: kind, which, index. Every number is here, once.
 use Prim.Native.Nat.{ℕ}
 use Rattle.segment.specs.declared.refusal.Refusal.{Refusal}
 
@@ -68,6 +68,16 @@ too-large = refusal 12 0 0
 -- the lent buffer's place from 1, and the length needed
 abbrev pub no-room : (buffer length : ℕ) → Refusal
 no-room b n = refusal 13 b n
+
+-- ---- kinds, caused by whoever made the MIDI file (document 02)
+
+-- outside the rules: 0 for the header, 14 for the track's heading, else the offset of the event's delta time
+abbrev pub midi-file : (index : ℕ) → Refusal
+midi-file i = refusal 14 0 i
+
+-- a hit beyond bar 65,535
+abbrev pub bar-too-far : Refusal
+bar-too-far = refusal 15 0 0
 
 -- ---- reasons of an invalid layout: in what is read
 

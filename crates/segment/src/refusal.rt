@@ -1,9 +1,10 @@
-// A refusal is three numbers (document 01): kind, which, index. What the source's Error does not carry is 0.
+// A refusal is three numbers (document 01): kind, which, index. What the source's Error does not carry is 0. Kinds from 14 on are document
+// 02's.
 // specs/Refusals.antt has every number, and what each constructor below makes of them.
 ghost use mathlib.Core.Path.{_≡_};
 ghost use Rattle.segment.specs.Refusals.{truncated, invalid-magic, unsupported-version, unsupported-flags, checksum-mismatch};
 ghost use Rattle.segment.specs.Refusals.{invalid-layout, invalid-varint, doc-id-overflow, position-overflow, invalid-utf8};
-ghost use Rattle.segment.specs.Refusals.{list-shape, too-large, no-room};
+ghost use Rattle.segment.specs.Refusals.{list-shape, too-large, no-room, midi-file, bar-too-far};
 
 pub struct Refusal {
     pub kind: u32,
@@ -37,6 +38,10 @@ pub const LIST_SHAPE: u32 = 11;
 pub const TOO_LARGE: u32 = 12;
 
 pub const NO_ROOM: u32 = 13;
+
+pub const MIDI_FILE: u32 = 14;
+
+pub const BAR_TOO_FAR: u32 = 15;
 
 // Sections.
 pub const HEADER: u32 = 1;
@@ -238,5 +243,28 @@ pub fn no_room(buffer: u32, needed: usize) -> Refusal
         kind: NO_ROOM,
         which: buffer,
         index: needed as u64,
+    }
+}
+
+// Kind 14: a MIDI file outside document 02's rules. The index is 0 for the header, 14 for the track's heading, else the offset of the event's
+// delta time.
+pub fn midi_file(index: usize) -> Refusal
+    ensures { λ r. ⌜ r ≡ midi-file index ⌝ }
+{
+    Refusal {
+        kind: MIDI_FILE,
+        which: 0,
+        index: index as u64,
+    }
+}
+
+// Kind 15: a hit beyond bar 65,535.
+pub fn bar_too_far() -> Refusal
+    ensures { λ r. ⌜ r ≡ bar-too-far ⌝ }
+{
+    Refusal {
+        kind: BAR_TOO_FAR,
+        which: 0,
+        index: 0,
     }
 }

@@ -1,4 +1,4 @@
-// What the calls of document 01 answer, each with its refusal. A call that fills lent buffers answers how many elements it stored.
+// What the calls of documents 01 and 02 answer, each with its refusal. A call that fills lent buffers answers how many elements it stored.
 use crate::refusal::Refusal;
 
 // How many documents and terms an open segment has (`open`).
@@ -45,5 +45,18 @@ pub enum TermTotals {
 // The length of the segment that was written (`write_positional_segment`).
 pub enum Written {
     Length(usize),
+    Refused(Refusal),
+}
+
+// How many documents, terms, postings and positions a MIDI file has (`midi_bars`).
+pub struct ListTotals {
+    pub documents: usize,
+    pub terms: usize,
+    pub postings: usize,
+    pub positions: usize,
+}
+
+pub enum Imported {
+    Totals(ListTotals),
     Refused(Refusal),
 }

@@ -1,0 +1,32 @@
+-- What a MIDI file plays, in the customer's words; Claims.antt says that the lists have exactly this.
+use Prim.Native.Nat.{ℕ, _+_, _*_, _/_, _<_}
+use mathlib.Core.Path.{_≡_}
+use mathlib.Core.List.{List, [], _∷_}
+use lib.ListN.{length, getD}
+use Rattle.common.specs.Elements.{_∈_}
+use Rattle.segment.specs.Results.{Result, _>>=_}
+use Rattle.midi_read.specs.declared.track.Hit.{Hit}
+use Rattle.midi_read.specs.Files.{big-field, chunks, hits}
+use Rattle.midi_bars.specs.Bars.{name-of}
+
+-- ticks to a quarter, the last two bytes of the header
+abbrev pub division : (file : List ℕ) → ℕ
+division file = big-field 2 12 file
+
+-- the file's note-ons with velocity above 0, in file order, or its refusal
+unfoldable pub note-ons : (steps quarter : ℕ) (file : List ℕ) → Result (List Hit)
+note-ons steps quarter file = chunks steps quarter file >>= (λ g. hits g file)
+
+-- one of them is of this note, and its tick, divided by a quarter of the division (where a quarter has four steps) and rounded down, is this
+-- step
+pub record Plays (quarter : ℕ) (file : List ℕ) (hs : List Hit) (note step : ℕ) : Type 0 where
+  pub hit : Hit
+  pub there : hit ∈ hs
+  pub of-note : hit .note ≡ note
+  pub on-step : hit .tick / (division file / quarter) ≡ step
+
+-- a phrase in a bar: some start has note i on step start + i, all within the bar
+pub record Plays-phrase (steps quarter : ℕ) (file : List ℕ) (hs : List Hit) (bar : ℕ) (names : List (List ℕ)) : Type 0 where
+  pub start : ℕ
+  pub on : (i : ℕ) → i < length names
+      → (note : ℕ) × (getD names i [] ≡ name-of note) × (start + i < steps) × Plays quarter file hs note (steps * bar + (start + i))

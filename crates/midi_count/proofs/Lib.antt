@@ -1,0 +1,4 @@
+-- Lowest first.
+pub mod Tallying
+pub mod Runs
+pub mod Sounding

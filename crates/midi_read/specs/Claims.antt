@@ -1,0 +1,45 @@
+-- What is claimed of the events and the hits; proved in proofs/.
+use Prim.Native.Nat.{ℕ, _+_, _≤_, _<_}
+use mathlib.Core.Path.{_≡_}
+use mathlib.Core.List.{List, [], _∷_}
+use lib.ListN.{length}
+use Rattle.common.specs.Elements.{_∈_}
+use Rattle.segment.specs.Results.{ok}
+use Rattle.midi_read.specs.declared.track.Reader.{Reader}
+use Rattle.midi_read.specs.declared.track.Hit.{Hit}
+use Rattle.midi_read.specs.Files.{Grid, Event, sounds, silent, ends, read-event, bar-of, hits, hits-from}
+
+-- a note of seven bits, and a velocity from 1 to 127
+pub record Audible (h : Hit) : Type 0 where
+  pub note : h .note < 128
+  pub some-velocity : 1 ≤ h .velocity
+  pub velocity : h .velocity ≤ 127
+
+-- past an event: two bytes on at least, within the file, at a tick that does not fall and rises by less than 2^28
+pub record Moved (file : List ℕ) (from next : Reader) : Type 0 where
+  pub on : from .at + 2 ≤ next .at
+  pub inside : next .at ≤ length file
+  pub never-falls : from .tick ≤ next .tick
+  pub rises : next .tick ≤ from .tick + 268435455
+
+abbrev pub Event-fine : (file : List ℕ) (from : Reader) → Event → Type 0
+Event-fine file from (sounds h next) = Moved file from next × (h .tick ≡ next .tick) × Audible h
+Event-fine file from (silent next) = Moved file from next
+Event-fine file from (ends past) = (from .at + 2 ≤ past) × (past ≤ length file)
+
+abbrev pub Events-fine : Type 0
+Events-fine = (file : List ℕ) (from : Reader) (e : Event) → read-event file from ≡ ok e → Event-fine file from e
+
+-- ticks never fall in file order
+abbrev pub Never-fall : (from : ℕ) → List Hit → Type 0
+Never-fall from [] = Unit {0}
+Never-fall from (h ∷ hs) = (from ≤ h .tick) × Never-fall (h .tick) hs
+
+pub record Hits-read (g : Grid) (file : List ℕ) (hs : List Hit) : Type 0 where
+  pub few : length hs ≤ length file
+  pub audible : (h : Hit) → h ∈ hs → Audible h
+  pub near : (h : Hit) → h ∈ hs → bar-of g h ≤ 65535
+  pub in-order : Never-fall 0 hs
+
+abbrev pub Read-so : Type 0
+Read-so = (g : Grid) (file : List ℕ) (hs : List Hit) → hits g file ≡ ok hs → Hits-read g file hs
