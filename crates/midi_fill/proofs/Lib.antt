@@ -1,0 +1,9 @@
+-- Lowest first.
+pub mod Storing
+pub mod Filling
+pub mod Scattered
+pub mod Settled
+pub mod Valued
+pub mod Joining
+pub mod Laid
+pub mod Passed
