@@ -63,6 +63,11 @@ module _ (g : Grid) (hs : List Hit) where
       sum-append (λ (p : Posting). length (p .positions)) (map (posting-of g hs n) (bars-of g hs n)) _
       ∙ rw (sum-map (λ (p : Posting). length (p .positions)) (posting-of g hs n) (bars-of g hs n), by-sound ns)
 
+  -- each name has four bytes
+  pub text-few : (ns : List ℕ) → length (joined (map (λ (t : Term). t .name) (map (term-of g hs) ns))) ≡ 4 * length ns
+  text-few [] = refl
+  text-few (n ∷ ns) = omega (arith, text-few ns)
+
 module _ (g : Grid) (hs : List Hit) (fine : Hits-fine g hs) where
   -- ---- one posting
 
@@ -183,10 +188,6 @@ module _ (g : Grid) (hs : List Hit) (fine : Hits-fine g hs) where
   postings-few : length all ≤ length hs
   postings-few = omega (arith, at-least all has-some, total-joined (λ (p : Posting). p .positions) all, positions-few)
 
-  text-few : (ns : List ℕ) → length (joined (map (λ (t : Term). t .name) (map (term-of g hs) ns))) ≡ 4 * length ns
-  text-few [] = refl
-  text-few (n ∷ ns) = omega (arith, text-few ns)
-
   small : Small (lists-of g hs)
   unfolding lists-of laid-flat given-of
   small =
@@ -199,7 +200,7 @@ module _ (g : Grid) (hs : List Hit) (fine : Hits-fine g hs) where
       record {
         ids = omega (arith, length-map ds (λ d. d .id));
         lengths = omega (arith, length-map ds (λ d. d .len));
-        text = omega (arith, text-few (sounds-of g hs), sounds-few);
+        text = omega (arith, text-few g hs (sounds-of g hs), sounds-few);
         ends = omega (arith, ends-count 0 (map (λ t. t .name) ts), length-map ts (λ t. t .name));
         posting-counts = omega (arith, length-map ts (λ t. length (t .postings)));
         posting-ids = omega (arith, length-map all (λ p. p .doc), postings-few);

@@ -6,3 +6,4 @@ pub mod Named
 pub mod Counted
 pub mod Struck
 pub mod Fine
+pub mod Words

@@ -80,7 +80,7 @@ pub record Up-to-a-hit (steps quarter : ℕ) (file : List ℕ) (hs : List Hit) (
 pub record Holds-file (steps quarter : ℕ) (file : List ℕ) (hs : List Hit) (l : Lists) : Type 0 where
   -- a hit of bar b, sound n, position p is in the lists exactly when the file has a note-on of note n with velocity above 0 whose tick,
   -- divided by a quarter of the division and rounded down, is 16 b + p
-  pub exactly : (note bar position : ℕ) → note < 128 → position < steps
+  pub exactly : (note bar position : ℕ) → position < steps
       → Listed (given l) (name-of note) bar position ↔ Plays quarter file hs note (steps * bar + position)
   -- and there is nothing else: every sound is so named, every position within the bar
   pub only : (name : List ℕ) (bar position : ℕ) → Listed (given l) name bar position
