@@ -83,12 +83,12 @@ passes-right steps quarter file g hs one f k =
 
 -- ---- what `fill` asks
 
-record Framed (steps : ℕ) (file : List ℕ) (g : Grid) : Type 0 where
-  small : length file ≤ 16777216
-  headed : 22 ≤ length file
-  steps-are : g .steps ≡ steps
+pub record Framed (steps : ℕ) (file : List ℕ) (g : Grid) : Type 0 where
+  pub small : length file ≤ 16777216
+  pub headed : 22 ≤ length file
+  pub steps-are : g .steps ≡ steps
 
-framed : (steps quarter : ℕ) (file : List ℕ) (g : Grid) → chunks steps quarter file ≡ ok g → Framed steps file g
+pub framed : (steps quarter : ℕ) (file : List ℕ) (g : Grid) → chunks steps quarter file ≡ ok g → Framed steps file g
 unfolding chunks heading
 framed steps quarter file g f =
     let (small, f₁) = check-gives (leb (length file) 16777216) too-large _ f in
