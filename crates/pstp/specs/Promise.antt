@@ -1,5 +1,5 @@
--- The C interface's one reply, made of each call's answer: kind 0 is acceptance, with the answer's numbers first and second; a refusal has
--- its three numbers, and zeros.
+-- The C interface's one reply, made of each call's answer: kind 0 is acceptance, with the answer's numbers first to fourth, 0 where there
+-- are fewer; a refusal has its three numbers, and zeros.
 use Prim.Native.Nat.{ℕ}
 use mathlib.Core.Path.{_≡_}
 use Rattle.segment.specs.declared.refusal.Refusal.{Refusal}
@@ -15,13 +15,18 @@ use Rattle.segment.specs.declared.replies.TermTotals.{TermTotals}
 use Rattle.segment.specs.declared.replies.TermTotals.the-variants as listed
 use Rattle.segment.specs.declared.replies.Written.{Written}
 use Rattle.segment.specs.declared.replies.Written.the-variants as written
+use Rattle.segment.specs.declared.replies.Imported.{Imported}
+use Rattle.segment.specs.declared.replies.Imported.the-variants as imported
 use Rattle.pstp.specs.declared.reply.Reply.{Reply}
 
+abbrev pub accepted-four : (first second third fourth : ℕ) → Reply
+accepted-four a b c d = record { kind = 0; which = 0; index = 0; first = a; second = b; third = c; fourth = d }
+
 abbrev pub accepted : (first second : ℕ) → Reply
-accepted a b = record { kind = 0; which = 0; index = 0; first = a; second = b }
+accepted a b = accepted-four a b 0 0
 
 abbrev pub refused : Refusal → Reply
-refused x = record { kind = x .kind; which = x .which; index = x .index; first = 0; second = 0 }
+refused x = record { kind = x .kind; which = x .which; index = x .index; first = 0; second = 0; third = 0; fourth = 0 }
 
 -- documents and terms
 abbrev pub opened-reply : Opened → Reply
@@ -51,6 +56,11 @@ listed-reply (listed.Refused x) = refused x
 abbrev pub written-reply : Written → Reply
 written-reply (written.Length n) = accepted n 0
 written-reply (written.Refused x) = refused x
+
+-- documents (bars), terms (sounds), postings and positions
+abbrev pub imported-reply : Imported → Reply
+imported-reply (imported.Totals t) = accepted-four (t .documents) (t .terms) (t .postings) (t .positions)
+imported-reply (imported.Refused x) = refused x
 
 -- A call behind the interface answered `a`, of which its promise holds; the reply is that answer's.
 pub record Replied {A : Type 0} (of : A → Reply) (Promise : A → Type 0) (r : Reply) : Type 0 where

@@ -2,15 +2,16 @@
 use segment::refusal::Refusal;
 use segment::replies::Counted;
 use segment::replies::DocFreq;
+use segment::replies::Imported;
 use segment::replies::Length;
 use segment::replies::Opened;
 use segment::replies::TermTotals;
 use segment::replies::Written;
 ghost use mathlib.Core.Path.{_≡_};
-ghost use Rattle.pstp.specs.Promise.{accepted, refused, opened-reply, length-reply, frequency-reply, counted-reply, listed-reply};
-ghost use Rattle.pstp.specs.Promise.{written-reply};
+ghost use Rattle.pstp.specs.Promise.{accepted, accepted-four, refused, opened-reply, length-reply, frequency-reply};
+ghost use Rattle.pstp.specs.Promise.{counted-reply, listed-reply, written-reply, imported-reply};
 
-// kind 0: accepted, and first and second have the answer's numbers. Else a refusal, and both are 0.
+// kind 0: accepted, and first to fourth have the answer's numbers, 0 where there are fewer. Else a refusal, and all four are 0.
 #[repr(C)]
 pub struct Reply {
     pub kind: u32,
@@ -18,11 +19,20 @@ pub struct Reply {
     pub index: u64,
     pub first: u64,
     pub second: u64,
+    pub third: u64,
+    pub fourth: u64,
 }
 
-// Acceptance, with the answer's numbers.
+// Acceptance, with the answer's numbers, two at most.
 fn accept(first: u64, second: u64) -> Reply
     ensures { λ r. ⌜ r ≡ accepted first second ⌝ }
+{
+    accept_four(first, second, 0, 0)
+}
+
+// Acceptance, with four numbers.
+fn accept_four(first: u64, second: u64, third: u64, fourth: u64) -> Reply
+    ensures { λ r. ⌜ r ≡ accepted-four first second third fourth ⌝ }
 {
     Reply {
         kind: 0,
@@ -30,6 +40,8 @@ fn accept(first: u64, second: u64) -> Reply
         index: 0,
         first: first,
         second: second,
+        third: third,
+        fourth: fourth,
     }
 }
 
@@ -43,6 +55,8 @@ fn refuse(x: Refusal) -> Reply
         index: x.index,
         first: 0,
         second: 0,
+        third: 0,
+        fourth: 0,
     }
 }
 
@@ -104,5 +118,20 @@ pub fn of_written(a: Written) -> Reply
     match a {
         Written::Length(n) => accept(n as u64, 0),
         Written::Refused(x) => refuse(x),
+    }
+}
+
+// documents, terms, postings, positions
+pub fn of_imported(a: Imported) -> Reply
+    ensures { λ r. ⌜ r ≡ imported-reply a ⌝ }
+{
+    match a {
+        Imported::Totals(t) => accept_four(
+            t.documents as u64,
+            t.terms as u64,
+            t.postings as u64,
+            t.positions as u64,
+        ),
+        Imported::Refused(x) => refuse(x),
     }
 }

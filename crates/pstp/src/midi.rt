@@ -1,0 +1,39 @@
+// Bars from MIDI files.
+use crate::reply::Reply;
+use crate::reply::of_imported;
+use midi_import::import::midi_bars;
+ghost use Rattle.common.specs.Slices.{was};
+ghost use Rattle.calls.specs.Given.{given-lists, left-lists};
+ghost use Rattle.midi_import.specs.Promise.{Bars-imported};
+ghost use Rattle.pstp.specs.Promise.{Replied, imported-reply};
+
+// first: documents (bars); second: terms (sounds); third: postings; fourth: positions; the eight lists that the writer takes, at the fronts
+// of the buffers.
+#[no_mangle]
+pub extern "C" fn pstp_midi_bars(
+    file: &[u8],
+    ids: &mut [u32],
+    lengths: &mut [u32],
+    text: &mut [u8],
+    ends: &mut [u32],
+    posting_counts: &mut [u32],
+    posting_ids: &mut [u32],
+    position_counts: &mut [u32],
+    positions: &mut [u32],
+) -> Reply
+    ensures { λ r. ⌜ Replied imported-reply (λ a. Bars-imported 16 4 (was file)
+        (given-lists ids lengths text ends «posting_counts» «posting_ids» «position_counts» positions) a
+        (left-lists ids lengths text ends «posting_counts» «posting_ids» «position_counts» positions)) r ⌝ }
+{
+    of_imported(midi_bars(
+        file,
+        ids,
+        lengths,
+        text,
+        ends,
+        posting_counts,
+        posting_ids,
+        position_counts,
+        positions,
+    ))
+}
