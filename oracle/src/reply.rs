@@ -8,6 +8,8 @@ pub struct Reply {
     pub index: u64,
     pub first: u64,
     pub second: u64,
+    pub third: u64,
+    pub fourth: u64,
 }
 
 #[derive(Clone, Copy, Debug, PartialEq, Eq)]
@@ -28,13 +30,14 @@ impl Refusal {
 }
 
 impl Reply {
+    /// Document 01's calls say two numbers; the third and fourth are 0.
     pub fn accepted(first: u64, second: u64) -> Self {
-        Reply { kind: 0, which: 0, index: 0, first, second }
+        Reply { kind: 0, which: 0, index: 0, first, second, third: 0, fourth: 0 }
     }
 }
 
 impl From<Refusal> for Reply {
     fn from(r: Refusal) -> Self {
-        Reply { kind: r.kind, which: r.which, index: r.index, first: 0, second: 0 }
+        Reply { kind: r.kind, which: r.which, index: r.index, ..Reply::accepted(0, 0) }
     }
 }
