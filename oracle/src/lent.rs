@@ -28,11 +28,11 @@ pub struct Lent<T> {
 }
 
 impl<T: Place> Lent<T> {
-    fn new() -> Self {
+    pub fn new() -> Self {
         Lent { places: Vec::new() }
     }
 
-    fn lend(&mut self, room: usize) {
+    pub fn lend(&mut self, room: usize) {
         self.places.clear();
         self.places.extend([T::FENCE; GUARD]);
         self.places.extend((0..room).map(T::pattern));
@@ -54,7 +54,7 @@ impl<T: Place> Lent<T> {
     }
 
     /// The answer stands in front, everything else is as it was.
-    fn holds(&self, answer: &[T]) -> bool {
+    pub fn holds(&self, answer: &[T]) -> bool {
         let (before, rest) = self.places.split_at(GUARD);
         let (lent, behind) = rest.split_at(self.room());
         answer.len() <= lent.len()

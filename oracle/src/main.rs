@@ -7,6 +7,7 @@
 //!   make, spoil, parts, damage, questions, rounds      random inputs
 //!   bars, worked, corners, patterns, strings, large    document 01's cases, whole small spaces, limits
 //!   show, shrink, reshape, sample                      a case as text, made smaller, and as a record of the replay list
+//!   midi                     bars from MIDI files, which the Rust does not have, beside a model from document 02's words
 
 mod bars;
 mod case;
@@ -18,6 +19,7 @@ mod large;
 mod lent;
 mod library;
 mod make;
+mod midi;
 mod numbers;
 mod parts;
 mod patterns;
@@ -38,6 +40,7 @@ mod words;
 mod worked;
 
 use compare::{found, opened, Runner};
+use midi::Midi;
 use random::Random;
 use sample::Sample;
 use std::path::PathBuf;
@@ -52,11 +55,26 @@ struct Options {
     uneven: bool,
     sample: Option<String>,
     case: Option<String>,
+    only_midi: bool,
+    midi_files: u64,
+    midi_sample: Option<String>,
+    midi_case: Option<String>,
 }
 
 fn options() -> Result<Options, String> {
-    let mut options =
-        Options { seed: 1, calls: 2_000_000, home: ".".into(), whole: false, uneven: false, sample: None, case: None };
+    let mut options = Options {
+        seed: 1,
+        calls: 2_000_000,
+        home: ".".into(),
+        whole: false,
+        uneven: false,
+        sample: None,
+        case: None,
+        only_midi: false,
+        midi_files: 500_000,
+        midi_sample: None,
+        midi_case: None,
+    };
     let mut words = std::env::args().skip(1);
     while let Some(word) = words.next() {
         let mut value = || words.next().ok_or(format!("{word} wants a value"));
@@ -69,6 +87,10 @@ fn options() -> Result<Options, String> {
             "--uneven" => options.uneven = true,
             "--sample" => options.sample = Some(value()?),
             "--case" => options.case = Some(value()?),
+            "--only-midi" => options.only_midi = true,
+            "--midi-files" => options.midi_files = number(value()?)?,
+            "--midi-sample" => options.midi_sample = Some(value()?),
+            "--midi-case" => options.midi_case = Some(value()?),
             _ => return Err(format!("unknown option {word}")),
         }
     }
@@ -107,13 +129,25 @@ fn part(runner: &mut Runner, name: &str, quota: u32, run: impl FnOnce(&mut Runne
     println!("{name}: {calls} calls in {:.1} s, differences so far {}", start.elapsed().as_secs_f64(), runner.differences);
 }
 
-fn conclude(runner: &mut Runner) -> ExitCode {
-    runner.tally.print();
-    println!("answers held against demand 3's rules over the lists handed in: {}", runner.ruled);
+/// Document 01's calls, beside the Rust.
+fn beside_the_rust(runner: &mut Runner, options: &Options) {
+    part(runner, "document 01's bars", 12, bars::all);
+    worked::all(runner, &options.home);
+    part(runner, "corners", 12, corners::all);
+    part(runner, "limits of 16,777,216", 0, large::all);
+    part(runner, "all small patterns", 3, |runner| patterns::all(runner, options.whole));
+    part(runner, "all short strings", 3, |runner| strings::all(runner, options.whole));
+    let mut random = Random::new(options.seed);
+    part(runner, &format!("random, seed {}", options.seed), 5, |runner| {
+        let until = runner.tally.total() + options.calls;
+        while runner.tally.total() < until {
+            rounds::round(runner, &mut random);
+        }
+    });
+}
+
+fn conclude(runner: &mut Runner) {
     println!("differences: {}", runner.differences);
-    if runner.differences == 0 {
-        return ExitCode::SUCCESS;
-    }
     for said in &runner.astray {
         println!("the Rust itself: {said}");
     }
@@ -124,7 +158,29 @@ fn conclude(runner: &mut Runner) -> ExitCode {
         println!("smallest: --case '{}'", show::shown(&kept));
         print!("{}", runner.differs(&case, &found, kept.room).unwrap_or_default());
     }
-    ExitCode::FAILURE
+}
+
+fn compared(options: &Options) -> std::io::Result<ExitCode> {
+    let mut runner = Runner::new(options.sample.is_some().then(Sample::new));
+    if !options.only_midi {
+        beside_the_rust(&mut runner, options);
+    }
+    if let (Some(file), Some(sample)) = (&options.sample, runner.sample.take()) {
+        sample.write(file)?;
+    }
+    let mut midi = Midi::new(options.midi_sample.is_some().then(midi::Sample::new));
+    midi::all(&mut midi, &mut runner, &options.home, options.seed, options.midi_files, options.whole);
+    if let (Some(file), Some(sample)) = (&options.midi_sample, midi.sample.take()) {
+        sample.write(file)?;
+    }
+    if !options.only_midi {
+        runner.tally.print();
+        println!("answers held against demand 3's rules over the lists handed in: {}", runner.ruled);
+    }
+    midi.tally.print();
+    conclude(&mut runner);
+    midi::conclude(&mut midi);
+    Ok(if runner.differences + midi.differences == 0 { ExitCode::SUCCESS } else { ExitCode::FAILURE })
 }
 
 fn main() -> ExitCode {
@@ -142,25 +198,11 @@ fn main() -> ExitCode {
     if let Some(line) = &options.case {
         return one_case(line);
     }
-    let mut runner = Runner::new(options.sample.is_some().then(Sample::new));
-    part(&mut runner, "document 01's bars", 12, bars::all);
-    worked::all(&mut runner, &options.home);
-    part(&mut runner, "corners", 12, corners::all);
-    part(&mut runner, "limits of 16,777,216", 0, large::all);
-    part(&mut runner, "all small patterns", 3, |runner| patterns::all(runner, options.whole));
-    part(&mut runner, "all short strings", 3, |runner| strings::all(runner, options.whole));
-    let mut random = Random::new(options.seed);
-    part(&mut runner, &format!("random, seed {}", options.seed), 5, |runner| {
-        let until = runner.tally.total() + options.calls;
-        while runner.tally.total() < until {
-            rounds::round(runner, &mut random);
-        }
-    });
-    if let (Some(file), Some(sample)) = (&options.sample, &runner.sample) {
-        if let Err(error) = sample.write(file) {
-            eprintln!("{file}: {error}");
-            return ExitCode::from(2);
-        }
+    if let Some(line) = &options.midi_case {
+        return midi::one_case(line);
     }
-    conclude(&mut runner)
+    compared(&options).unwrap_or_else(|error| {
+        eprintln!("a replay list could not be written: {error}");
+        ExitCode::from(2)
+    })
 }

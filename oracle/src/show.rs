@@ -33,7 +33,7 @@ pub fn shown(kept: &Kept) -> String {
     said + &format!(" room={}", join(&[a, b, c, kept.room.bytes]))
 }
 
-fn unhex(text: &str) -> Option<Vec<u8>> {
+pub fn unhex(text: &str) -> Option<Vec<u8>> {
     (0..text.len() / 2).map(|i| u8::from_str_radix(text.get(2 * i..2 * i + 2)?, 16).ok()).collect()
 }
 
