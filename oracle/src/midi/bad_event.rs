@@ -93,10 +93,7 @@ pub fn bad_event(random: &mut Random, running: Option<u8>, behind: usize) -> Bad
         }
         _ => match running {
             Some(status) if has_two(status) => bytes.extend([data(random), high(random)]),
-            Some(_) => {
-                // the running status itself, and no data byte
-                bytes.extend([running.unwrap_or(0xC0), high(random)]);
-            }
+            Some(status) => bytes.extend([status, high(random)]),
             None => bytes.extend([data(random), data(random)]),
         },
     }

@@ -69,11 +69,10 @@ fn longest(pieces: impl Fn(usize) -> Vec<u8>, end: &[u8]) -> Vec<u8> {
     bytes::file(4, &track)
 }
 
-/// Five hits a tick by running status: 5.6 million different ones.
+/// Eight hits a tick by running status: 5.6 million, all different, within the bars that are allowed.
 fn dense(i: usize) -> Vec<u8> {
     match i {
         0 => vec![0x00, 0x99, 0x00, 0x01],
-        // eight million ticks would be too many bars
         _ => vec![if i % 8 == 0 { 0x01 } else { 0x00 }, (i % 128) as u8, 0x7F],
     }
 }

@@ -52,8 +52,6 @@ pub struct Made {
     pub running: Vec<Option<u8>>,
     /// each hit's note and tick
     pub struck: Vec<(u8, u64)>,
-    /// the end-of-track event's tick
-    pub last_tick: u64,
     pub traits: [u64; TRAITS.len()],
 }
 
@@ -64,10 +62,10 @@ impl Made {
 
     /// The hits as they were struck; none if one is beyond bar 65,535.
     pub fn hits(&self) -> Option<Hits> {
-        let quarter = u64::from(self.division) / 4;
+        let step = u64::from(self.division) / 4;
         let place = |(note, tick): &(u8, u64)| {
-            let bar = tick / (16 * quarter);
-            let position = (tick - bar * 16 * quarter) / quarter;
+            let bar = tick / (16 * step);
+            let position = (tick - bar * 16 * step) / step;
             (bar <= LAST_BAR).then_some(Hit { note: *note, bar: bar as u32, position: position as u32 })
         };
         self.struck.iter().map(place).collect()

@@ -51,7 +51,6 @@ pub fn made(random: &mut Random) -> Made {
         events: Vec::new(),
         running: Vec::new(),
         struck: Vec::new(),
-        last_tick: 0,
         traits: [0; TRAITS.len()],
     };
     let step = u64::from(division) / 4;
@@ -117,7 +116,7 @@ impl Maker<'_> {
 
     /// A note-on sounds in the same step again, or any event of any kind follows.
     fn any_event(&mut self) {
-        if self.random.chance(12) {
+        if self.random.chance(12) && !matches!(self.notes, Notes::Rising) {
             if let Some((note, tick)) = self.made.struck.last().copied() {
                 if tick / self.step == self.tick / self.step {
                     let rest = self.step - 1 - self.tick % self.step;
@@ -220,6 +219,7 @@ impl Maker<'_> {
     /// A length and that many bytes, which look like events as often as not.
     fn skipped(&mut self) {
         let length = match self.random.below(60) {
+            0 if self.random.chance(2) => 16_384,
             0 => self.random.pick(&[126, 127, 128, 129, 300]),
             1..=12 => 0,
             _ => self.random.below(7) + 1,
@@ -272,7 +272,6 @@ impl Maker<'_> {
         if notes.len() == 128 {
             self.count(Trait::EveryNote);
         }
-        self.made.last_tick = self.tick;
         self.made
     }
 }
