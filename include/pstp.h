@@ -1,18 +1,20 @@
 /* Positional segments: documents, terms and positions in one sequence of bytes, and the search over them.
  *
  * In a drum machine a document is a bar, a term a sound, a position a step. The calls are those of src/positional/raw.rs of
- * arclabs561/postings (see NOTICE), ported to Rattle and proved. docs/FORMAT.md describes the format, the order of the checks and the
- * rules of the search; docs/GLOSSARY.md explains the words. Link with libpstp.a (`rt staticlib pstp`, x86-64 Linux). C99 and C++.
+ * arclabs561/postings (see NOTICE), ported to Rattle and proved, and pstp_midi_bars, which reads bars from a MIDI file. docs/FORMAT.md
+ * describes the format, the order of the checks and the rules of the search; docs/GLOSSARY.md explains the words. Link with libpstp.a
+ * (`rt staticlib pstp`, x86-64 Linux). C99 and C++.
  *
  * What every call guarantees
  *
- *  - A slice is a pointer and a number of elements. The contents may be anything: broken segments, lists that do not fit together, any
- *    name and any buffer length are either accepted or refused.
- *  - A reply with kind PSTP_ACCEPTED has the answer in `first` and `second`, and which = index = 0. Any other kind is a refusal: kind,
- *    which and index say what was refused, first = second = 0, and every lent buffer is unchanged.
+ *  - A slice is a pointer and a number of elements. The contents may be anything: broken segments and MIDI files, lists that do not fit
+ *    together, any name and any buffer length are either accepted or refused.
+ *  - A reply with kind PSTP_ACCEPTED has the answer in `first` to `fourth` (0 where the call names none), and which = index = 0. Any other
+ *    kind is a refusal: kind, which and index say what was refused, first to fourth are 0, and every lent buffer is unchanged.
  *  - After acceptance an answer of n elements fills the first n elements of its buffer; the elements behind them are unchanged.
- *  - No call allocates memory, touches a file or keeps state, and all calls are thread-safe. No pointer is kept after the return.
- *  - Stack: under 64 KiB for the searches, under 4 KiB for every other call. This is measured (tests/c/stack.c), not proved.
+ *  - No call allocates memory, opens a file or keeps state, and all calls are thread-safe. No pointer is kept after the return.
+ *  - Stack: under 64 KiB for the searches, under 16 KiB for pstp_midi_bars (its tables of 128 numbers), under 4 KiB for every other call.
+ *    This is measured (tests/c/stack.c), not proved.
  *
  * What the caller must ensure
  *
@@ -28,6 +30,7 @@
  *  Lend an empty buffer: PSTP_NO_ROOM returns in `which` the first buffer that is too short (from 1, in the order of the parameters) and
  *  in `index` the length it needs. An answer of no elements is accepted at once. Or lend what is always enough and save the second call
  *  (each call opens and checks the whole segment again): for ids, lengths and counts, the number of documents that pstp_open returns.
+ *  pstp_midi_bars has eight buffers, and says itself what is always enough.
  */
 #ifndef PSTP_H
 #define PSTP_H
@@ -47,6 +50,8 @@ typedef struct pstp_reply {
     uint64_t index;  /* refusal: a value, an index or a length, depending on the kind; otherwise 0 */
     uint64_t first;  /* accepted: the first number of the answer */
     uint64_t second; /* accepted: the second number, or 0 */
+    uint64_t third;  /* accepted: the third number, or 0 */
+    uint64_t fourth; /* accepted: the fourth number, or 0 */
 } pstp_reply;
 
 /* Kinds: `kind` of a reply. In brackets, what `which` and `index` hold; otherwise they are 0. */
@@ -70,8 +75,13 @@ enum {
     /* Caused by the caller. */
     PSTP_LIST_SHAPE = 11, /* the lists do not fit together: ends decrease or do not end at the text's length, parallel lists differ in
                              length, or counts do not add up */
-    PSTP_TOO_LARGE = 12,  /* a list or text of over PSTP_LIMIT elements, or a question of over PSTP_NAMES names */
-    PSTP_NO_ROOM = 13     /* a lent buffer is too short for the whole answer (which: buffer, from 1; index: the length needed) */
+    PSTP_TOO_LARGE = 12,  /* a list, text or MIDI file of over PSTP_LIMIT elements, or a question of over PSTP_NAMES names */
+    PSTP_NO_ROOM = 13,    /* a lent buffer is too short for the whole answer (which: buffer, from 1; index: the length needed) */
+
+    /* Caused by the MIDI file. */
+    PSTP_MIDI_FILE = 14,  /* a file outside the rules of pstp_midi_bars (index: 0 for the header, 14 for the track's heading, otherwise
+                             the offset of the event) */
+    PSTP_BAR_TOO_FAR = 15 /* a hit beyond bar 65,535 */
 };
 
 /* Sections: `which` of kinds 1, 5 and 7. */
@@ -113,7 +123,7 @@ enum {
 };
 
 /* Limits. Segments and lent buffers have none. */
-#define PSTP_LIMIT 16777216 /* elements of a list or text that is passed in */
+#define PSTP_LIMIT 16777216 /* elements of a list, text or MIDI file that is passed in */
 #define PSTP_NAMES 128      /* names of a question */
 
 /* The checks have a fixed order (docs/FORMAT.md), and the first that fails gives the refusal. Each call lists its refusals in that order,
@@ -232,6 +242,44 @@ pstp_reply pstp_write_positional_segment_records(pstp_document_length *documents
                                                  size_t posting_counts_len, const uint32_t *posting_ids, size_t posting_ids_len,
                                                  const uint32_t *position_counts, size_t position_counts_len, const uint32_t *positions,
                                                  size_t positions_len, uint8_t *out, size_t out_len);
+
+/* Reads a Standard MIDI File 1.0 into the eight lists of pstp_write_positional_segment, which, given room, accepts them.
+ * first: number of bars (documents); second: of sounds (terms); third: of postings; fourth: of positions. All 0 for a file without hits.
+ *
+ *  File          "MThd", length 6, format 0, one track, and the division: ticks to a quarter note, 4 to 32,764, a multiple of 4. Then
+ *                "MTrk" and the length of the rest of the file. Then events up to the first end of track, FF 2F 00, which ends the file.
+ *  Event         a delta time, then a channel message, whose status may be left out where the event before it has the same (running
+ *                status); or a meta event (FF) or an exclusive one (F0, F7), skipped by its length, whatever is in it. A number has at
+ *                most 4 bytes; long forms are read.
+ *  Hit           a note-on with a velocity above 0, on any channel
+ *  Sound         "n" and the note as three decimal digits: n000 to n127
+ *  Step          the hit's tick, that is all delta times up to it added up, divided by a quarter of the division, rounded down
+ *  Bar, position the step divided by 16: quotient and remainder. A phrase does not run over a bar line.
+ *
+ * What is filled, how many elements it has, and how many are always enough:
+ *
+ *  ids             first       65,536  0, 1, 2 and so on: every bar up to the last with a hit
+ *  lengths         first       65,536  16 for each
+ *  text            4 * second  512     the names of the sounds that have hits, by increasing note
+ *  ends            second      128     4, 8, 12 and so on
+ *  posting_counts  second      128     for each sound the number of bars that have it
+ *  posting_ids     third       n       these bars, increasing, of the first sound, then of the next
+ *  position_counts third       n       for each of them the number of its steps that have the sound
+ *  positions       fourth      n       these steps, increasing, of the first posting, then of the next; equal hits on a step count once
+ *
+ * n is file_len / 3: a hit takes 3 bytes of the file or more. No file has more than 5,592,396 hits.
+ *
+ * Refusals: 12 (over PSTP_LIMIT bytes); 14 with index 0 (header); 14 with index 14 (the track's heading); for each event, in the order of
+ * the file, 14 with the offset of its delta time, or 15; where the file ends without an end of track, 14 with file_len, and where a byte
+ * follows it, 14 with that byte's offset; 13/1 ids, 13/2 lengths, 13/3 text, 13/4 ends, 13/5 posting_counts, 13/6 posting_ids,
+ * 13/7 position_counts, 13/8 positions.
+ * An event is wrong (14) if it is cut short by the file's end; a number has over 4 bytes; a data byte comes where a status must (at the
+ * beginning, behind a meta or exclusive event); a data byte or a meta type is above 127; the status is F1 to F6 or F8 to FE; FF 2F is not
+ * followed by 00. */
+pstp_reply pstp_midi_bars(const uint8_t *file, size_t file_len, uint32_t *ids, size_t ids_len, uint32_t *lengths, size_t lengths_len,
+                          uint8_t *text, size_t text_len, uint32_t *ends, size_t ends_len, uint32_t *posting_counts,
+                          size_t posting_counts_len, uint32_t *posting_ids, size_t posting_ids_len, uint32_t *position_counts,
+                          size_t position_counts_len, uint32_t *positions, size_t positions_len);
 
 #ifdef __cplusplus
 }

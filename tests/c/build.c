@@ -152,3 +152,23 @@ struct bytes uneven(void) {
                "02 05 07 AC 02 E7 A2 04 80 20 "
                "09 03 00 80 01 AB 01");
 }
+
+static void set_track_length(struct bytes *file) {
+    file->at[20] = (uint8_t)((file->len - 22) >> 8);
+    file->at[21] = (uint8_t)(file->len - 22);
+}
+
+struct bytes midi(uint32_t division, const char *events) {
+    struct bytes file = hex("4D 54 68 64 00 00 00 06 00 00 00 01 00 00 4D 54 72 6B 00 00 00 00");
+    struct bytes track = hex(events);
+    file.at[12] = (uint8_t)(division >> 8);
+    file.at[13] = (uint8_t)division;
+    append(&file, track.at, track.len);
+    set_track_length(&file);
+    return file;
+}
+
+void close_track(struct bytes *file) {
+    append(file, "\x00\xFF\x2F\x00", 4);
+    set_track_length(file);
+}

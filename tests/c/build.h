@@ -5,7 +5,7 @@
 #include "pstp.h"
 
 struct bytes {
-    uint8_t at[1024];
+    uint8_t at[2048];
     size_t len;
 };
 
@@ -54,5 +54,11 @@ struct bytes two_bars(void);
 
 /* Unlike numbers throughout: documents (2, 5), (9, 300), (70000, 4096), and hat in 9 on 0, 128, 299. */
 struct bytes uneven(void);
+
+/* A MIDI file of format 0 and one track: this division, and these events (hex). The first event is at offset 22. */
+struct bytes midi(uint32_t division, const char *events);
+
+/* A file whose events were appended one by one: the end of track behind them, and the heading's length. */
+void close_track(struct bytes *file);
 
 #endif

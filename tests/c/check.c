@@ -2,6 +2,7 @@
 
 #include <inttypes.h>
 #include <stdio.h>
+#include <string.h>
 
 unsigned passed, failed;
 uint32_t nowhere[1];
@@ -17,22 +18,27 @@ void expect(const char *note, bool ok) {
 }
 
 pstp_reply accepted(uint64_t first, uint64_t second) {
-    pstp_reply r = {PSTP_ACCEPTED, 0, 0, first, second};
+    return accepted_four(first, second, 0, 0);
+}
+
+pstp_reply accepted_four(uint64_t first, uint64_t second, uint64_t third, uint64_t fourth) {
+    pstp_reply r = {PSTP_ACCEPTED, 0, 0, first, second, third, fourth};
     return r;
 }
 
 pstp_reply refused(uint32_t kind, uint32_t which, uint64_t index) {
-    pstp_reply r = {kind, which, index, 0, 0};
+    pstp_reply r = {kind, which, index, 0, 0, 0, 0};
     return r;
 }
 
 static void print_reply(const char *what, pstp_reply r) {
-    printf("  %s %" PRIu32 " %" PRIu32 " %" PRIu64 ", %" PRIu64 " %" PRIu64 "\n", what, r.kind, r.which, r.index, r.first, r.second);
+    printf("  %s %" PRIu32 " %" PRIu32 " %" PRIu64 ", %" PRIu64 " %" PRIu64 " %" PRIu64 " %" PRIu64 "\n", what, r.kind, r.which, r.index,
+           r.first, r.second, r.third, r.fourth);
 }
 
 void expect_reply(const char *note, pstp_reply got, pstp_reply want) {
     bool same = got.kind == want.kind && got.which == want.which && got.index == want.index && got.first == want.first
-        && got.second == want.second;
+        && got.second == want.second && got.third == want.third && got.fourth == want.fourth;
     expect(note, same);
     if (!same) {
         print_reply("got ", got);
@@ -60,12 +66,30 @@ void expect_filled(const char *note, const struct lent *buffer, const uint32_t *
     expect(note, same);
 }
 
+struct bytes lent_bytes(void) {
+    struct bytes buffer = {{0}, 0};
+    for (size_t i = 0; i < sizeof buffer.at; i++) {
+        buffer.at[i] = (uint8_t)(0xA0 ^ i ^ (i >> 8));
+    }
+    return buffer;
+}
+
+void expect_written(const char *note, const struct bytes *buffer, const struct bytes *answer, size_t n) {
+    struct bytes whole = lent_bytes();
+    memcpy(whole.at, answer->at, n);
+    expect(note, memcmp(buffer->at, whole.at, sizeof whole.at) == 0);
+}
+
 int main(void) {
+    expect("a reply has 48 bytes", sizeof(pstp_reply) == 48);
     test_opening();
     test_decoding();
     test_reading();
     test_searching();
     test_writing();
+    test_midi();
+    test_midi_events();
+    test_midi_limits();
     test_limits();
     test_empty();
     test_stack();

@@ -2,14 +2,15 @@
 #ifndef CHECK_H
 #define CHECK_H
 
-#include "pstp.h"
+#include "build.h"
 
 /* How many expectations held, and how many did not; each of the latter prints a line. */
 extern unsigned passed, failed;
 
 void expect(const char *note, bool ok);
 
-pstp_reply accepted(uint64_t first, uint64_t second);
+pstp_reply accepted(uint64_t first, uint64_t second); /* third and fourth are 0 */
+pstp_reply accepted_four(uint64_t first, uint64_t second, uint64_t third, uint64_t fourth);
 pstp_reply refused(uint32_t kind, uint32_t which, uint64_t index);
 void expect_reply(const char *note, pstp_reply got, pstp_reply want);
 
@@ -23,6 +24,10 @@ struct lent lent(void);
 /* The first n places are the answer, the others as lent. n = 0: untouched. */
 void expect_filled(const char *note, const struct lent *buffer, const uint32_t *answer, size_t n);
 
+/* The same with bytes. */
+struct bytes lent_bytes(void);
+void expect_written(const char *note, const struct bytes *buffer, const struct bytes *answer, size_t n);
+
 /* Any address: what an empty slice points to. */
 extern uint32_t nowhere[1];
 extern uint8_t no_bytes[1];
@@ -33,6 +38,9 @@ void test_decoding(void);
 void test_reading(void);
 void test_searching(void);
 void test_writing(void);
+void test_midi(void);
+void test_midi_events(void);
+void test_midi_limits(void);
 void test_limits(void);
 void test_empty(void);
 void test_stack(void);

@@ -110,11 +110,11 @@ static void test_first_named(void) {
         const char *names;
         pstp_reply want;
     } rows[] = {
-        {"abz", {PSTP_INVALID_VARINT, PSTP_SECTION_POSTINGS, 0, 0, 0}},
-        {"baz", {PSTP_INVALID_LAYOUT, PSTP_REASON_EMPTY_POSITION_LIST, 0, 0, 0}},
-        {"zab", {PSTP_INVALID_VARINT, PSTP_SECTION_POSTINGS, 0, 0, 0}},
-        {"zba", {PSTP_INVALID_LAYOUT, PSTP_REASON_EMPTY_POSITION_LIST, 0, 0, 0}},
-        {"bza", {PSTP_INVALID_LAYOUT, PSTP_REASON_EMPTY_POSITION_LIST, 0, 0, 0}},
+        {"abz", {PSTP_INVALID_VARINT, PSTP_SECTION_POSTINGS, 0, 0, 0, 0, 0}},
+        {"baz", {PSTP_INVALID_LAYOUT, PSTP_REASON_EMPTY_POSITION_LIST, 0, 0, 0, 0, 0}},
+        {"zab", {PSTP_INVALID_VARINT, PSTP_SECTION_POSTINGS, 0, 0, 0, 0, 0}},
+        {"zba", {PSTP_INVALID_LAYOUT, PSTP_REASON_EMPTY_POSITION_LIST, 0, 0, 0, 0, 0}},
+        {"bza", {PSTP_INVALID_LAYOUT, PSTP_REASON_EMPTY_POSITION_LIST, 0, 0, 0, 0, 0}},
     };
     struct bytes s = assemble((struct parts){.documents = 1,
                                              .metadata = "00 10",

@@ -36,5 +36,14 @@ void test_empty(void) {
                  accepted(72, 0));
     expect_reply(note, pstp_open(out.at, 72), accepted(0, 0));
     expect_reply(note, pstp_document_lengths(out.at, 72, NULL, 0, NULL, 0), accepted(0, 0));
+    struct bytes one_hit = midi(4, "00 90 24 40 00 FF 2F 00"), no_hit = midi(4, "00 FF 2F 00");
+    expect_reply(note, pstp_midi_bars(NULL, 0, NULL, 0, NULL, 0, NULL, 0, NULL, 0, NULL, 0, NULL, 0, NULL, 0, NULL, 0), refused(14, 0, 0));
+    expect_reply(note, pstp_midi_bars(no_hit.at, no_hit.len, NULL, 0, NULL, 0, NULL, 0, NULL, 0, NULL, 0, NULL, 0, NULL, 0, NULL, 0),
+                 accepted(0, 0));
+    expect_reply(note, pstp_midi_bars(one_hit.at, one_hit.len, NULL, 0, NULL, 0, NULL, 0, NULL, 0, NULL, 0, NULL, 0, NULL, 0, NULL, 0),
+                 refused(13, 1, 1));
+    expect_reply(note,
+                 pstp_midi_bars(one_hit.at, one_hit.len, x.place, 1, x.place + 1, 1, NULL, 0, NULL, 0, NULL, 0, NULL, 0, NULL, 0, NULL, 0),
+                 refused(13, 3, 4));
     expect_filled(note, &x, nowhere, 0);
 }

@@ -7,7 +7,7 @@
 #include <string.h>
 #include <ucontext.h>
 
-enum { SEARCH = 65536, OTHER = 4096, PAINT = 0xA5 };
+enum { SEARCH = 65536, MIDI = 16384, OTHER = 4096, PAINT = 0xA5 };
 
 static uint8_t stack[4 * SEARCH];
 static ucontext_t host, guest;
@@ -21,6 +21,26 @@ static size_t room;
 static pstp_reply reply;
 
 static uint32_t posting_counts[128], posting_ids[384], position_counts[384], positions[768];
+
+/* A MIDI file with hits of all 128 notes on the first steps of two bars, and its lists. */
+static struct bytes file;
+static uint32_t bars[2], lengths[2], name_ends[128], bar_counts[128], bar_ids[256], step_counts[256], steps[256];
+static uint8_t sounds[512];
+
+static void make_file(void) {
+    file = midi(4, "00 90 00 01");
+    for (int i = 0; i < 256; i++) {
+        const uint8_t hit[] = {i == 128 ? 16 : 0, (uint8_t)(i % 128), 1};
+        append(&file, hit, 3);
+    }
+    close_track(&file);
+}
+
+static void midi_bars(void) {
+    size_t whole = room > 0;
+    reply = pstp_midi_bars(file.at, file.len, bars, 2 * whole, lengths, 2 * whole, sounds, 512 * whole, name_ends, 128 * whole, bar_counts,
+                           128 * whole, bar_ids, 256 * whole, step_counts, 256 * whole, steps, 256 * whole);
+}
 
 static void make_segment(void) {
     const uint32_t documents[] = {1, 2, 3}, lengths[] = {2, 2, 2};
@@ -70,18 +90,19 @@ static void document_lengths(void) {
 static const struct {
     const char *note;
     void (*call)(void);
-    uint64_t first, second;
+    uint64_t first, second, third, fourth;
     size_t promised;
 } calls[] = {
-    {"writer", make_segment, 72 + 32 * 128 + 256 + 3 * 2 + 128 * 3 * 4, 0, OTHER},
-    {"writer over records", make_segment_of_records, 72 + 32 * 128 + 256 + 3 * 2 + 128 * 3 * 4, 0, OTHER},
-    {"document_lengths", document_lengths, 3, 0, OTHER},
-    {"term_postings", postings, 3, 6, OTHER},
-    {"phrase of 128", phrase, 0, 0, SEARCH},
-    {"phrase of two", short_phrase, 3, 0, SEARCH},
-    {"ordered", ordered, 3, 0, SEARCH},
-    {"unordered", unordered, 3, 0, SEARCH},
-    {"near_match", near_two, 3, 0, SEARCH},
+    {"writer", make_segment, 72 + 32 * 128 + 256 + 3 * 2 + 128 * 3 * 4, 0, 0, 0, OTHER},
+    {"writer over records", make_segment_of_records, 72 + 32 * 128 + 256 + 3 * 2 + 128 * 3 * 4, 0, 0, 0, OTHER},
+    {"document_lengths", document_lengths, 3, 0, 0, 0, OTHER},
+    {"term_postings", postings, 3, 6, 0, 0, OTHER},
+    {"phrase of 128", phrase, 0, 0, 0, 0, SEARCH},
+    {"phrase of two", short_phrase, 3, 0, 0, 0, SEARCH},
+    {"ordered", ordered, 3, 0, 0, 0, SEARCH},
+    {"unordered", unordered, 3, 0, 0, 0, SEARCH},
+    {"near_match", near_two, 3, 0, 0, 0, SEARCH},
+    {"midi_bars", midi_bars, 2, 128, 256, 256, MIDI},
 };
 
 static void run(void) {
@@ -105,20 +126,24 @@ static size_t depth_of(void (*call)(void)) {
 }
 
 void test_stack(void) {
-    size_t most = 0;
+    size_t most = 0, of_midi = 0;
     const char *deepest = "";
+    make_file();
     for (size_t i = 0; i < sizeof calls / sizeof calls[0]; i++) {
         for (room = 0; room <= 8; room += 8) { /* counted first, or filled at once */
             size_t depth = depth_of(calls[i].call);
             if (room == 8) {
-                expect_reply(calls[i].note, reply, accepted(calls[i].first, calls[i].second));
+                expect_reply(calls[i].note, reply, accepted_four(calls[i].first, calls[i].second, calls[i].third, calls[i].fourth));
             }
             expect(calls[i].note, depth < calls[i].promised);
             if (depth > most) {
                 most = depth;
                 deepest = calls[i].note;
             }
+            if (calls[i].call == midi_bars && depth > of_midi) {
+                of_midi = depth;
+            }
         }
     }
-    printf("stack: at most %zu bytes (%s)\n", most, deepest);
+    printf("stack: at most %zu bytes (%s); midi_bars %zu\n", most, deepest, of_midi);
 }

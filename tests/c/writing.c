@@ -116,20 +116,6 @@ static const struct segment {
       .entry = {{0, 1, 0, 3, 1}, {1, 2, 3, 6, 2}, {3, 1, 9, 3, 1}}}},
 };
 
-/* The slice that is lent, each place with a value of its own. */
-static void mark(struct bytes *out) {
-    for (size_t i = 0; i < sizeof out->at; i++) {
-        out->at[i] = (uint8_t)(0xA0 ^ i ^ (i >> 8));
-    }
-}
-
-static void expect_written(const char *note, const struct bytes *out, const struct bytes *want, size_t n) {
-    struct bytes whole;
-    mark(&whole);
-    memcpy(whole.at, want->at, n);
-    expect(note, memcmp(out->at, whole.at, sizeof whole.at) == 0);
-}
-
 static pstp_reply write_given(const struct given *g, uint8_t *out, size_t room) {
     struct numbers ids = numbers(g->ids), lengths = numbers(g->lengths), ends = numbers(g->ends);
     struct numbers posting_counts = numbers(g->posting_counts), posting_ids = numbers(g->posting_ids);
@@ -165,10 +151,9 @@ static pstp_reply write_records(const char *note, const struct given *g, size_t 
 
 /* The reply and the slice are those of the two lists. Lists of unlike lengths are no records. */
 static void test_over_records(const char *note, const struct given *g, size_t room, pstp_reply want, const struct bytes *bytes, size_t n) {
-    struct bytes out;
+    struct bytes out = lent_bytes();
     size_t count = numbers(g->ids).len;
     if (numbers(g->lengths).len == count) {
-        mark(&out);
         expect_reply(note, write_records(note, g, count, count, out.at, room), want);
         expect_written(note, &out, bytes, n);
     }
@@ -183,8 +168,7 @@ static void test_misfits(void) {
         for (size_t x = 0; x <= count + 1; x++) {
             for (size_t y = 0; y <= count + 1; y++) {
                 if (x != count || y != count) {
-                    struct bytes out;
-                    mark(&out);
+                    struct bytes out = lent_bytes();
                     expect_reply("misfit", write_records("misfit", rows[i], x, y, out.at, sizeof out.at), refused(11, 0, 0));
                     expect_written("misfit", &out, &out, 0);
                 }
@@ -197,9 +181,8 @@ static void test_segment(const struct segment *row) {
     struct bytes want = assemble(row->parts);
     size_t rooms[] = {0, want.len - 1, want.len, want.len + 1, sizeof want.at};
     for (size_t i = 0; i < sizeof rooms / sizeof rooms[0]; i++) {
-        struct bytes out;
+        struct bytes out = lent_bytes();
         bool fits = want.len <= rooms[i];
-        mark(&out);
         expect_reply(row->note, write_given(&row->given, out.at, rooms[i]), fits ? accepted(want.len, 0) : refused(13, 1, want.len));
         expect_written(row->note, &out, &want, fits ? want.len : 0);
         test_over_records(row->note, &row->given, rooms[i], fits ? accepted(want.len, 0) : refused(13, 1, want.len), &want,
@@ -212,8 +195,7 @@ void test_writing(void) {
     for (size_t i = 0; i < sizeof refusals / sizeof refusals[0]; i++) {
         const struct refusal *row = &refusals[i];
         for (size_t room = 0; room <= 512; room += 512) { /* 13 is tested last */
-            struct bytes out;
-            mark(&out);
+            struct bytes out = lent_bytes();
             expect_reply(row->note, write_given(&row->given, out.at, room), refused(row->kind, row->which, 0));
             expect_written(row->note, &out, &out, 0);
             test_over_records(row->note, &row->given, room, refused(row->kind, row->which, 0), &out, 0);
@@ -225,21 +207,19 @@ void test_writing(void) {
     }
 
     /* The worked examples, byte by byte. */
-    struct bytes out, want;
-    mark(&out);
-    want = two_bars();
+    struct bytes out = lent_bytes(), want = two_bars();
     expect_reply("the two bars take 165 bytes", write_given(&segments[1].given, out.at, 165), accepted(165, 0));
     expect_written("the two bars, byte by byte", &out, &want, 165);
     expect("metadata 03 10 04 10", memcmp(out.at + 145, hex("03 10 04 10").at, 4) == 0);
     expect("kick's postings 03 03 00 04 0B 04 01 02", memcmp(out.at + 149, hex("03 03 00 04 0B 04 01 02").at, 8) == 0);
-    mark(&out);
+    out = lent_bytes();
     expect_reply("the two bars over records", write_records("two bars", &segments[1].given, 2, 2, out.at, 165), accepted(165, 0));
     expect_written("the two bars over records, byte by byte", &out, &want, 165);
-    mark(&out);
+    out = lent_bytes();
     want = hex("50 53 54 50 30 30 30 31 02");
     expect_reply("no bars, no sounds take 72 bytes", write_given(&segments[0].given, out.at, 72), accepted(72, 0));
     expect_written("magic, 02, then 63 zero bytes", &out, &want, 72);
-    mark(&out);
+    out = lent_bytes();
     want = uneven();
     expect_reply("unlike numbers take 124 bytes", write_given(&segments[2].given, out.at, 124), accepted(124, 0));
     expect_written("unlike numbers, byte by byte", &out, &want, 124);
