@@ -2,7 +2,7 @@
 
 use std::fmt;
 
-/// Why a call was refused. The first ten are the original's, with its texts; the last three belong to the library.
+/// Why a call was refused. The first ten are the original's, with its texts; the others belong to the library.
 #[derive(Debug, Clone, PartialEq, Eq)]
 #[non_exhaustive]
 pub enum Error {
@@ -33,7 +33,7 @@ pub enum Error {
     InvalidUtf8,
     /// Flat lists do not fit together. Slices of slices always do: no call of this crate gives it.
     ListShape,
-    /// A list or text handed in has over 16,777,216 elements, or a question over 128 terms.
+    /// A list, text or MIDI file handed in has over 16,777,216 elements, or a question over 128 terms.
     TooLarge,
     /// A lent buffer is too short. This crate lends buffers that suffice: no call of it gives this.
     NoRoom {
@@ -42,6 +42,10 @@ pub enum Error {
         /// The length that it needs.
         needed: usize,
     },
+    /// A MIDI file is outside the rules: at 0 its header, at 14 its track's heading, else the event at this offset.
+    MidiFile(usize),
+    /// A MIDI file has a hit beyond bar 65,535.
+    BarTooFar,
 }
 
 /// Sections, from 1.
@@ -111,6 +115,8 @@ impl Error {
                 buffer: which,
                 needed: index,
             },
+            14 => Error::MidiFile(index),
+            15 => Error::BarTooFar,
             _ => return None,
         })
     }
@@ -148,13 +154,22 @@ impl fmt::Display for Error {
             ),
             Error::InvalidUtf8 => write!(f, "raw positional segment term is not UTF-8"),
             Error::ListShape => write!(f, "lists do not fit together"),
-            Error::TooLarge => write!(f, "a list is too large or a question has too many terms"),
+            Error::TooLarge => {
+                write!(
+                    f,
+                    "a list or file is too large or a question has too many terms"
+                )
+            }
             Error::NoRoom { buffer, needed } => {
                 write!(
                     f,
                     "buffer {buffer} is too short: {needed} places are needed"
                 )
             }
+            Error::MidiFile(0) => write!(f, "invalid MIDI file: header"),
+            Error::MidiFile(14) => write!(f, "invalid MIDI file: track heading"),
+            Error::MidiFile(offset) => write!(f, "invalid MIDI file: event at offset {offset}"),
+            Error::BarTooFar => write!(f, "MIDI file has a hit beyond bar 65535"),
         }
     }
 }
@@ -198,6 +213,8 @@ mod tests {
                     needed: 9,
                 },
             ),
+            ((14, 0, 16_777_216), Error::MidiFile(16_777_216)),
+            ((15, 0, 0), Error::BarTooFar),
         ];
         for ((kind, which, index), error) in cases {
             assert_eq!(Error::of_numbers(kind, which, index), Some(error));
@@ -208,7 +225,7 @@ mod tests {
     fn other_numbers_have_none() {
         for (kind, which, index) in [
             (0, 0, 0),
-            (14, 0, 0),
+            (16, 0, 0),
             (1, 0, 0),
             (5, 7, 0),
             (6, 0, 0),

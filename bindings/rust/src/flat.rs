@@ -9,7 +9,7 @@ fn count(n: usize) -> Result<u32, Error> {
 }
 
 /// Names as one text, and where each ends in it.
-#[derive(Default)]
+#[derive(Clone, Debug, Default, PartialEq, Eq)]
 pub(crate) struct Names {
     pub(crate) text: Vec<u8>,
     pub(crate) ends: Vec<u32>,
@@ -32,7 +32,7 @@ impl Names {
 }
 
 /// The writer's eight lists.
-#[derive(Default)]
+#[derive(Clone, Debug, Default, PartialEq, Eq)]
 pub(crate) struct Lists {
     pub(crate) ids: Vec<DocId>,
     pub(crate) lengths: Vec<u32>,

@@ -25,12 +25,13 @@
 //! - Each call opens the segment again: the library keeps nothing between calls. A call therefore reads the whole segment once, and every
 //!   method returns a [`Result`]; after [`RawPositionalSegment::open`] has accepted the bytes, opening them again cannot fail.
 //! - A question has at most 128 terms, and each list at most 16,777,216 elements; otherwise [`Error::TooLarge`].
-//! - Files and the hash-map index are left out.
+//! - Files and the hash-map index are left out. [`midi_bars`], which reads bars from a MIDI file, is added.
 #![deny(missing_docs)]
 #![deny(unsafe_code)]
 
 mod error;
 mod flat;
+mod midi;
 mod room;
 mod segment;
 #[allow(unsafe_code)]
@@ -39,6 +40,7 @@ mod types;
 mod writer;
 
 pub use error::Error;
+pub use midi::{midi_bars, MidiBars};
 pub use segment::RawPositionalSegment;
 pub use types::{DocId, PositionalPosting, PositionalTermPostings, RawPositionalPosting, TokenPos};
 pub use writer::write_positional_segment;

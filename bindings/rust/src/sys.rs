@@ -4,8 +4,12 @@
 //! length, empty ones too; a `&mut` slice overlaps nothing else that is passed; no other thread writes behind a `&` or touches what is
 //! behind a `&mut` while the call runs. The library keeps no pointer, and no contents are forbidden.
 
+mod midi;
+
 use crate::flat::{Lists, Names};
 use crate::Error;
+
+pub(crate) use midi::midi_bars;
 
 /// Every call's reply.
 #[repr(C)]
@@ -15,16 +19,23 @@ pub(crate) struct Reply {
     index: u64,
     first: u64,
     second: u64,
+    third: u64,
+    fourth: u64,
 }
 
 // The library is built for 64-bit machines alone.
 const _: () = assert!(usize::BITS == 64);
 
 impl Reply {
-    /// The answer's two numbers, or the refusal.
+    /// The answer's first two numbers, or the refusal. Only `midi_bars` has more.
     pub(crate) fn answer(self) -> Result<(u64, u64), Error> {
+        self.numbers().map(|[first, second, ..]| (first, second))
+    }
+
+    /// The answer's four numbers, or the refusal.
+    pub(crate) fn numbers(self) -> Result<[u64; 4], Error> {
         if self.kind == 0 {
-            return Ok((self.first, self.second));
+            return Ok([self.first, self.second, self.third, self.fourth]);
         }
         let refusal = Error::of_numbers(self.kind, self.which, self.index);
         Err(refusal.unwrap_or_else(|| {
