@@ -1,9 +1,19 @@
 //! One call of the library over and over, for a profiler:  bench again CALL DOCUMENTS TIMES
+//! or, with the name of a MIDI file for the call and the length of the long ones for the documents, midi_bars.
 use crate::library::{self, Buffers};
 use crate::originals::fast;
-use crate::{calls, data, measure};
+use crate::{calls, data, measure, midi};
+
+fn report(taken: Vec<f64>) {
+    let least = taken.iter().copied().fold(f64::INFINITY, f64::min);
+    println!("{:.3} ms, at least {:.3}", measure::median(taken) / 1e6, least / 1e6);
+}
 
 pub fn again(name: &str, documents: usize, times: usize) {
+    if let Some((_, file)) = midi::files(documents.max(4096)).into_iter().find(|(of, _)| *of == name) {
+        let mut lists = midi::enough(file.len());
+        return report((0..times).map(|_| measure::once(|| library::midi_bars(&file, &mut lists)).0).collect());
+    }
     let lists = data::bars(documents);
     let bytes = fast::write(&fast::given(&lists));
     let mut buffers = Buffers::new(documents, lists.positions.len());
@@ -20,6 +30,5 @@ pub fn again(name: &str, documents: usize, times: usize) {
         assert_eq!(reply.kind, 0);
         taken.push(time);
     }
-    let least = taken.iter().copied().fold(f64::INFINITY, f64::min);
-    println!("{:.3} ms, at least {:.3}", measure::median(taken) / 1e6, least / 1e6);
+    report(taken);
 }

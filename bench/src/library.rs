@@ -10,6 +10,8 @@ pub struct Reply {
     pub index: u64,
     pub first: u64,
     pub second: u64,
+    pub third: u64,
+    pub fourth: u64,
 }
 
 type Bytes = *const u8;
@@ -68,6 +70,26 @@ extern "C" {
         h: usize,
         out: *mut u8,
         l: usize,
+    ) -> Reply;
+    fn pstp_midi_bars(
+        file: Bytes,
+        n: usize,
+        ids: Lent,
+        a: usize,
+        lengths: Lent,
+        b: usize,
+        text: *mut u8,
+        c: usize,
+        ends: Lent,
+        d: usize,
+        posting_counts: Lent,
+        e: usize,
+        posting_ids: Lent,
+        f: usize,
+        position_counts: Lent,
+        g: usize,
+        positions: Lent,
+        h: usize,
     ) -> Reply;
 }
 
@@ -139,6 +161,32 @@ pub fn write(l: &Lists, out: &mut [u8]) -> Reply {
             l.positions.len(),
             out.as_mut_ptr(),
             out.len(),
+        )
+    }
+}
+
+/// The bars of a MIDI file, in lists that are lent.
+pub fn midi_bars(file: &[u8], l: &mut Lists) -> Reply {
+    unsafe {
+        pstp_midi_bars(
+            file.as_ptr(),
+            file.len(),
+            l.ids.as_mut_ptr(),
+            l.ids.len(),
+            l.lengths.as_mut_ptr(),
+            l.lengths.len(),
+            l.text.as_mut_ptr(),
+            l.text.len(),
+            l.ends.as_mut_ptr(),
+            l.ends.len(),
+            l.posting_counts.as_mut_ptr(),
+            l.posting_counts.len(),
+            l.posting_ids.as_mut_ptr(),
+            l.posting_ids.len(),
+            l.position_counts.as_mut_ptr(),
+            l.position_counts.len(),
+            l.positions.as_mut_ptr(),
+            l.positions.len(),
         )
     }
 }

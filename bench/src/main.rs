@@ -3,8 +3,9 @@
 //!   bench again CALL DOCUMENTS TIMES   one call of the library over and over, for a profiler
 //!   bench one CALL DOCUMENTS ROUNDS    one call on both sides
 //!   bench limits                       the lists at their limits
+//!   bench midi                         bars from MIDI files
 //!   bench stack                        the stack of every call
-//! Read in this order: data, calls, library, originals, measure, compare, limits, stack, report, text.
+//! Read in this order: data, calls, library, originals, measure, compare, limits, plain, midi, stack, report, text.
 mod again;
 mod calls;
 mod compare;
@@ -12,7 +13,9 @@ mod data;
 mod library;
 mod limits;
 mod measure;
+mod midi;
 mod originals;
+mod plain;
 mod report;
 mod stack;
 mod text;
@@ -37,6 +40,12 @@ fn depths() -> Vec<(String, usize)> {
         all.push((call.name(), depth));
     }
     all.push(("write".into(), written));
+    let (_, file) = midi::files(1 << 16).remove(2);
+    let mut lists = midi::enough(file.len());
+    let imported = stack::depth(&mut || {
+        black_box(library::midi_bars(&file, &mut lists));
+    });
+    all.push(("midi_bars".into(), imported));
     all
 }
 
@@ -67,6 +76,7 @@ fn main() {
     }
     match &words[..] {
         [only] if only == "limits" => return at_limits(),
+        [only] if only == "midi" => return report::midi(&midi::all(1 << 24, 11)),
         [only] if only == "stack" => return report::stack(&depths()),
         _ => {}
     }
@@ -79,6 +89,7 @@ fn main() {
         vec![compare::size(1000, 15, None), compare::size(100_000, 11, None), compare::size(1_000_000, 3, None)]
     };
     let hostile = limits::hostile(if quick { 1 << 21 } else { 1 << 24 });
+    let midi = if quick { midi::all(1 << 20, 5) } else { midi::all(1 << 24, 11) };
 
     println!("## The data\n\n{}", text::DATA);
     report::data(&sizes);
@@ -98,6 +109,8 @@ fn main() {
     } else {
         at_limits();
     }
+    println!("\n## Bars from MIDI files\n\n{}", text::MIDI);
+    report::midi(&midi);
     println!("\n## Stack and code\n\n{}", text::STACK);
     report::stack(&depths());
     println!("\nThe library's machine code has {} bytes.", report::grouped(code));

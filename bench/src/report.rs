@@ -1,6 +1,7 @@
 //! The tables of docs/PERFORMANCE.md.
 use crate::compare::{Row, Size};
 use crate::limits::{Hostile, Limit};
+use crate::midi::Midi;
 
 /// 1234567 as 1,234,567.
 pub fn grouped(n: usize) -> String {
@@ -121,6 +122,16 @@ pub fn hostile(all: &[Hostile]) {
         let each = h.times.iter().zip(&h.positions).map(|(time, n)| format!("{:.1}", time / *n as f64));
         let last = ratio(h.times[h.times.len() - 1], h.original);
         line([h.name.clone(), grouped(h.positions[0])].into_iter().chain(each).chain([last]));
+    }
+}
+
+pub fn midi(all: &[Midi]) {
+    head("File", ["bytes", "postings", "positions", "of the plain reader", "MB/s", "plain reader: MB/s"].map(String::from));
+    for m in all {
+        let [ours, plain] = m.times;
+        let speed = |time: f64| format!("{:.0}", m.bytes as f64 / time * 1e3);
+        let counts = [m.bytes, m.postings, m.positions].map(grouped);
+        line([m.name.into()].into_iter().chain(counts).chain([ratio(ours, plain), speed(ours), speed(plain)]));
     }
 }
 

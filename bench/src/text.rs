@@ -33,6 +33,16 @@ positions. The ids are 255 apart, lengths and positions take five bytes each. On
 equals the Rust's byte for byte, opens, and the first, middle and last of its lists read back as the Rust reads them. Timed once.
 ";
 
+pub const MIDI: &str = "\
+`midi_bars` has no original. Beside it runs a plain reader in Rust (`bench/src/plain.rs`): one pass over the bytes with the same rules, a
+vector of steps for each note, and the eight lists from them; what it allocates it also drops. The library fills lent buffers. The lists
+of both were compared first; a ratio is the library's time over the plain reader's. The files with hits of 2 and of all 128 notes have the
+same ticks, postings and positions and differ in the notes alone: two at a time, in the second other ones in each bar. The drummer's file
+is 48 bars of kick, snare and hats, with a release for each stroke; the last is texts and exclusive events of up to 63 bytes, with a hit
+for every sixteen.
+";
+
 pub const STACK: &str = "\
-The library allocates nothing. What a call touches of the stack, measured on a painted one, over 1,000 documents:
+The library allocates nothing. What a call touches of the stack, measured on a painted one, over 1,000 documents, and over a MIDI file of
+65,536 bytes with hits of all notes:
 ";
