@@ -93,7 +93,7 @@ static const struct damage {
 
 static struct lists no_lists;
 
-static const size_t none[8] = {0}, plenty[8] = {ROOM, ROOM, sizeof no_lists.text.at, ROOM, ROOM, ROOM, ROOM, ROOM};
+static const size_t nothing[8] = {0}, plenty[8] = {ROOM, ROOM, sizeof no_lists.text.at, ROOM, ROOM, ROOM, ROOM, ROOM};
 
 /* One call with so many places in each buffer. `lists`: what the buffers hold behind it. */
 static void import(const char *note, const struct bytes *file, const size_t room[8], pstp_reply want, const struct lists *lists) {
@@ -119,25 +119,25 @@ void expect_bars(const char *note, const struct bytes *file, const struct lists 
     import(note, file, plenty, want, l);
     import(note, file, need, want, l);
     for (size_t i = 0; i < 8; i++) {
-        size_t only[8], from[8], room[8];
+        size_t only[8], none[8], from[8];
         if (need[i] == 0) {
             continue; /* no place is too few */
         }
         for (size_t k = 0; k < 8; k++) {
-            only[k] = k == i ? need[k] - 1 : plenty[k]; /* one place too few in one buffer */
-            from[k] = k < i ? need[k] : 0;              /* and in those behind it */
-            room[k] = k == i ? 0 : need[k];
+            only[k] = need[k] - (k == i);     /* one place too few in one buffer */
+            none[k] = k == i ? 0 : plenty[k]; /* no place in it */
+            from[k] = k < i ? need[k] : 0;    /* nor in those behind it */
         }
         pstp_reply short_of = refused(PSTP_NO_ROOM, (uint32_t)i + 1, need[i]);
         import(note, file, only, short_of, &no_lists);
+        import(note, file, none, short_of, &no_lists);
         import(note, file, from, short_of, &no_lists);
-        import(note, file, room, short_of, &no_lists);
     }
 }
 
 void expect_no_bars(const char *note, const struct bytes *file, pstp_reply want) {
     import(note, file, plenty, want, &no_lists);
-    import(note, file, none, want, &no_lists);
+    import(note, file, nothing, want, &no_lists);
 }
 
 /* Imported, written from the buffers that were lent, and asked. */
