@@ -1,5 +1,5 @@
 -- What is claimed of the events and the hits; proved in proofs/.
-use Prim.Native.Nat.{ℕ, _+_, _≤_, _<_}
+use Prim.Native.Nat.{ℕ, _+_, _*_, _≤_, _<_}
 use mathlib.Core.Path.{_≡_}
 use mathlib.Core.List.{List, [], _∷_}
 use lib.ListN.{length}
@@ -7,7 +7,7 @@ use Rattle.common.specs.Elements.{_∈_}
 use Rattle.segment.specs.Results.{ok}
 use Rattle.midi_read.specs.declared.track.Reader.{Reader}
 use Rattle.midi_read.specs.declared.track.Hit.{Hit}
-use Rattle.midi_read.specs.Files.{Grid, Event, sounds, silent, ends, read-event, bar-of, hits, hits-from}
+use Rattle.midi_read.specs.Files.{Grid, Event, sounds, silent, ends, read-event, step-of, bar-of, position-of, hits}
 
 -- a note of seven bits, and a velocity from 1 to 127
 pub record Audible (h : Hit) : Type 0 where
@@ -43,3 +43,14 @@ pub record Hits-read (g : Grid) (file : List ℕ) (hs : List Hit) : Type 0 where
 
 abbrev pub Read-so : Type 0
 Read-so = (g : Grid) (file : List ℕ) (hs : List Hit) → hits g file ≡ ok hs → Hits-read g file hs
+
+-- a hit's step is rounded down: it has begun at the hit's tick, and the next one has not. Bar and position are that step divided by the
+-- steps to a bar, quotient and remainder
+pub record On-grid (g : Grid) (h : Hit) : Type 0 where
+  pub begun : step-of g h * g .ticks ≤ h .tick
+  pub not-over : h .tick < step-of g h * g .ticks + g .ticks
+  pub parted : bar-of g h * g .steps + position-of g h ≡ step-of g h
+  pub in-bar : position-of g h < g .steps
+
+abbrev pub Grid-right : Type 0
+Grid-right = (g : Grid) (h : Hit) → 1 ≤ g .ticks → 1 ≤ g .steps → On-grid g h
