@@ -1,0 +1,65 @@
+-- What the importer leaves: the lists at the fronts of the eight buffers.
+-- Assumes nothing.
+use mathlib.Core.Path.{_≡_, refl, sym, _∙_}
+use mathlib.Core.List.{List}
+use Prim.Native.Nat.{ℕ, _≤_}
+use native.Mathlib.Omega.{arith}
+use lib.ListN.{length, take, drop, length-append}
+use lib.Seq.{take-at}
+use Rattle.segment.specs.Results.{ok}
+use Rattle.segment.proofs.Binds.{bind-gives}
+use Rattle.calls.specs.Given.{Lists}
+use Rattle.calls.specs.Replies.{fronted}
+use Rattle.midi_bars.specs.Imports.{import-file, roomy-all, import-into, import-left}
+use Rattle.midi_bars.proofs.Words.{import-accepted, import-text}
+use Rattle.claim_import.specs.Promise.{totals-of}
+use Rattle.claim_import.specs.Steps.{fronts, Has-fronts}
+
+front : (xs b : List ℕ) (n : ℕ) → length xs ≡ n → take n (fronted xs b) ≡ xs
+front xs b n e = take-at xs (drop (length xs) b) n e
+
+front-fits : (xs b : List ℕ) (n : ℕ) → length xs ≡ n → n ≤ length (fronted xs b)
+front-fits xs b n e = omega (arith, length-append xs (drop (length xs) b))
+
+-- the call reads what the file holds
+pub read-by : (steps quarter : ℕ) (file : List ℕ) (b l : Lists) → import-into steps quarter file b ≡ ok l
+    → import-file steps quarter file ≡ ok l
+unfolding import-into
+read-by steps quarter file b l f =
+    let (m, e, f₁) = bind-gives (import-file steps quarter file) _ f in
+    let (_, _, f₂) = bind-gives (roomy-all m b) _ f₁ in
+    e ∙ f₂
+
+pub read-into : (steps quarter : ℕ) (file : List ℕ) (b l : Lists) → import-file steps quarter file ≡ ok l → roomy-all l b ≡ ok tt
+    → import-into steps quarter file b ≡ ok l
+unfolding import-into
+read-into steps quarter file b l e room = rw (e, room)
+
+module _ (steps quarter : ℕ) (file : List ℕ) (b l : Lists) (one : 1 ≤ steps) (read : import-file steps quarter file ≡ ok l) where
+  pub fronts-are : fronts (totals-of l) (import-left (ok l) b) ≡ l
+  fronts-are =
+      let shape = import-accepted steps quarter file l one read .shape in
+      λ i. record {
+        ids = front (l .ids) (b .ids) _ refl i;
+        lengths = front (l .lengths) (b .lengths) _ (sym (shape .documents)) i;
+        text = front (l .text) (b .text) _ (import-text steps quarter file l read) i;
+        ends = front (l .ends) (b .ends) _ refl i;
+        posting-counts = front (l .posting-counts) (b .posting-counts) _ (shape .terms) i;
+        posting-ids = front (l .posting-ids) (b .posting-ids) _ refl i;
+        position-counts = front (l .position-counts) (b .position-counts) _ (shape .counts) i;
+        positions = front (l .positions) (b .positions) _ refl i;
+      }
+
+  pub has-fronts : Has-fronts (totals-of l) (import-left (ok l) b)
+  has-fronts =
+      let shape = import-accepted steps quarter file l one read .shape in
+      record {
+        ids = front-fits (l .ids) (b .ids) _ refl;
+        lengths = front-fits (l .lengths) (b .lengths) _ (sym (shape .documents));
+        text = front-fits (l .text) (b .text) _ (import-text steps quarter file l read);
+        ends = front-fits (l .ends) (b .ends) _ refl;
+        posting-counts = front-fits (l .posting-counts) (b .posting-counts) _ (shape .terms);
+        posting-ids = front-fits (l .posting-ids) (b .posting-ids) _ refl;
+        position-counts = front-fits (l .position-counts) (b .position-counts) _ (shape .counts);
+        positions = front-fits (l .positions) (b .positions) _ refl;
+      }

@@ -1,0 +1,4 @@
+-- Lowest first.
+pub mod Notes
+pub mod Fronts
+pub mod Told

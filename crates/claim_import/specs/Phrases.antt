@@ -1,0 +1,53 @@
+-- Document 02, wish 2: a phrase put to an imported and written file lists exactly the bars in which the file's own notes meet it. Nothing
+-- here names what the importer, the writer or the search computes: only that the file is read, the room, and what the file plays, in words.
+use Prim.Native.Nat.{ℕ, _≤_}
+use mathlib.Core.Path.{_≡_}
+use mathlib.Core.List.{List, _++_}
+use lib.ListN.{length, drop}
+use Rattle.common.specs.Elements.{_∈_, Rising}
+use Rattle.segment.specs.Results.{ok}
+use Rattle.segment.specs.Texts.{names}
+use Rattle.segment.specs.declared.replies.Counted.the-variants as counted
+use Rattle.segment.specs.declared.replies.ListTotals.{ListTotals}
+use Rattle.rules.specs.declared.rule.Rule.the-variants.{Phrase}
+use Rattle.calls.specs.Given.{Lists}
+use Rattle.calls.specs.Sizes.{segment-size}
+use Rattle.midi_read.specs.declared.track.Hit.{Hit}
+use Rattle.midi_bars.specs.Imports.{import-file, roomy-all}
+use Rattle.midi_bars.specs.Words.{note-ons, Plays-phrase}
+use Rattle.claim_joint.specs.declared.ask.Asked.the-variants as asked
+use Rattle.claim_joint.specs.Demand.{Proper-text}
+use Rattle.claim_import.specs.declared.ask.ImportAsked.{ImportAsked}
+use Rattle.claim_import.specs.declared.ask.ImportAsked.the-variants as reply
+
+-- the bars in which the file's own notes `hs` play the phrase, ascending and without repeats
+pub record Bars-that-play (steps quarter : ℕ) (file : List ℕ) (hs : List Hit) (names : List (List ℕ)) (ids : List ℕ) : Type 0 where
+  pub only : (bar : ℕ) → bar ∈ ids → Plays-phrase steps quarter file hs bar names
+  pub every : (bar : ℕ) → Plays-phrase steps quarter file hs bar names → bar ∈ ids
+  pub rising : Rising ids
+
+-- nothing is refused: the file is read into `l`, which fits the eight lent buffers `b`, its segment fits `out`, and the phrase is
+-- well-formed and of a name or more
+pub record Without-refusal (steps quarter : ℕ) (file : List ℕ) (b : Lists) (out name ends : List ℕ) (l : Lists) : Type 0 where
+  pub read : import-file steps quarter file ≡ ok l
+  pub room : roomy-all l b ≡ ok tt
+  pub room-to-write : segment-size l ≤ length out
+  pub proper : Proper-text Phrase name ends
+
+-- the search answers how many there are
+abbrev pub Answers : ImportAsked → (how-many : ℕ) → Type 0
+Answers r k = (t : ListTotals) × (n : ℕ) × (r ≡ reply.Asked t (asked.Answer n (counted.Count k)))
+
+-- they fill that many first places of the buffer
+pub record Bars-listed (steps quarter : ℕ) (file : List ℕ) (hs : List Hit) (names : List (List ℕ)) (found : List ℕ)
+    (r : ImportAsked) (found′ : List ℕ) : Type 0 where
+  pub there-are : (ids : List ℕ) × Bars-that-play steps quarter file hs names ids
+  pub answer : (ids : List ℕ) → Bars-that-play steps quarter file hs names ids → length ids ≤ length found
+      → Answers r (length ids) × (found′ ≡ ids ++ drop (length ids) found)
+
+-- the claim, of the file's own notes
+abbrev pub Phrase-answered : (steps quarter : ℕ) (file : List ℕ) (b : Lists) (out name ends found : List ℕ)
+    → ImportAsked → (found′ : List ℕ) → Type 0
+Phrase-answered steps quarter file b out name ends found r found′ =
+    (l : Lists) → Without-refusal steps quarter file b out name ends l
+    → (hs : List Hit) × (note-ons steps quarter file ≡ ok hs) × Bars-listed steps quarter file hs (names 0 ends name) found r found′
