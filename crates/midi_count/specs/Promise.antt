@@ -1,5 +1,5 @@
 -- What the functions of count.rt promise and ask.
-use Prim.Native.Nat.{ℕ, zero, suc, _+_, _≤_, _<_}
+use Prim.Native.Nat.{ℕ, zero, suc, _+_, _/_, _≤_, _<_}
 use mathlib.Core.Path.{_≡_}
 use mathlib.Core.List.{List, [], _∷_}
 use lib.ListN.{length, getD, set}
@@ -44,11 +44,17 @@ pub record Countable (file : List ℕ) (ticks steps : ℕ) (postings positions :
   pub no-postings : Low 0 postings
   pub no-positions : Low 0 positions
 
--- a hit that can be noted
-pub record Notable (note step steps : ℕ) (postings positions : List ℕ) : Type 0 where
-  pub known : note < 128
+-- a step with its bar
+pub record In-bar (step bar steps : ℕ) : Type 0 where
   pub near : step ≤ 4194304
   pub some-steps : 1 ≤ steps
+  pub steps-few : steps ≤ 64
+  pub bar-is : bar ≡ step / steps
+
+-- a hit that can be noted
+pub record Notable (note step bar steps : ℕ) (postings positions : List ℕ) : Type 0 where
+  pub known : note < 128
+  pub in-bar : In-bar step bar steps
   pub postings-low : Low 16777216 postings
   pub positions-low : Low 16777216 positions
 

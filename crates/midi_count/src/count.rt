@@ -10,7 +10,7 @@ ghost use Rattle.common.specs.Slices.{was, left};
 ghost use Rattle.midi_read.specs.Files.{grid};
 ghost use Rattle.midi_bars.specs.Bars.{greater};
 ghost use Rattle.midi_count.specs.Tallies.{fresh, opens};
-ghost use Rattle.midi_count.specs.Promise.{Countable, Counts, Notable, Noted};
+ghost use Rattle.midi_count.specs.Promise.{Countable, Counts, In-bar, Notable, Noted};
 
 // The number of bars, or the first refusal.
 pub enum Tallied {
@@ -29,18 +29,19 @@ pub fn is_fresh(last: u64, step: u64) -> u64
     1
 }
 
-// 1 for a step in a bar that is not the one of the sound's last step.
-pub fn does_open(last: u64, step: u64, steps: u64) -> u64
-    requires { ⌜ 1 ≤ steps ⌝ }
+// 1 for a step in a bar that is not the one of the sound's last step. The step's bar is handed in, so that nothing is divided.
+pub fn does_open(last: u64, step: u64, bar: u64, steps: u64) -> u64
+    requires { ⌜ In-bar step bar steps ⌝ }
     ensures { λ r. ⌜ r ≡ opens last step steps ⌝ }
 {
-    if last == 0 {
+    let first = bar * steps;
+    if last <= first {
         return 1;
     }
-    if (last - 1) / steps == step / steps {
-        return 0;
+    if first + steps < last {
+        return 1;
     }
-    1
+    0
 }
 
 // A hit of a sound on a step, noted in the tables.
@@ -50,13 +51,14 @@ fn note_hit(
     positions: &mut [u64; 128],
     note: usize,
     step: u64,
+    bar: u64,
     steps: u64,
 )
-    requires { ⌜ Notable note step steps (now postings) (now positions) ⌝ }
+    requires { ⌜ Notable note step bar steps (now postings) (now positions) ⌝ }
     ensures { λ r. ⌜ Noted note step steps (was last) (was postings) (was positions) (left last) (left postings) (left positions) ⌝ }
 {
     let before = last[note];
-    let more = does_open(before, step, steps);
+    let more = does_open(before, step, bar, steps);
     let new = is_fresh(before, step);
     postings[note] = postings[note] + more;
     positions[note] = positions[note] + new;
@@ -99,7 +101,7 @@ pub fn count(
                     return Tallied::Refused(bar_too_far());
                 }
                 let note = h.note as usize;
-                note_hit(last, postings, positions, note, step, steps);
+                note_hit(last, postings, positions, note, step, bar, steps);
                 bars = greater_of(bars, bar + 1);
                 reader = next;
             }

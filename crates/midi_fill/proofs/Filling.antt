@@ -211,15 +211,13 @@ module _ (file : List ℕ) (g : Grid) (starts marks : List ℕ) (x₀ x : Buffer
           getD-set-same (x .positions) n (getD (x .positions) n 0 + new) 0 (omega (arith, known, w .positions-long)),
         )
 
-    pub puttable : 1 ≤ g .steps → g .steps ≤ 64 → Puttable starts marks n (step-of g h) (g .steps) x
+    pub puttable : 1 ≤ g .steps → g .steps ≤ 64 → Puttable starts marks n (step-of g h) (bar-of g h) (g .steps) x
     puttable s few =
         let i = w .within .inside in
         let l = w .within .small in
         record {
           known = known;
-          near = near-step (step-of g h) (g .steps) s few near;
-          some-steps = s;
-          steps-few = few;
+          in-bar = record { near = near-step (step-of g h) (g .steps) s few near; some-steps = s; steps-few = few; bar-is = refl };
           postings-low = up-to _ (w .postings-low) (omega arith);
           positions-low = up-to _ (w .positions-low) (omega arith);
           inside-low = up-to _ (w .inside-low) (omega arith);

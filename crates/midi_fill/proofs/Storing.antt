@@ -17,15 +17,17 @@ in-last-le more new before = go (eqb more 0)
     go true = omega arith
     go false = omega arith
 
-pub stored-as : (starts marks : List ℕ) (n step steps : ℕ) (x : Buffers) {more new count : ℕ}
+pub stored-as : (starts marks : List ℕ) (n step steps : ℕ) (x : Buffers) {more new count bar position : ℕ}
     → more ≡ opens (getD (x .last) n 0) step steps
     → new ≡ fresh (getD (x .last) n 0) step
     → count ≡ in-last more new (getD (x .inside) n 0)
+    → bar ≡ step / steps
+    → position ≡ step % steps
     → buffers (set (x .last) n (step + 1)) (set (x .postings) n (getD (x .postings) n 0 + more))
     (set (x .positions) n (getD (x .positions) n 0 + new))
     (set (x .inside) n count)
-    (set (x .ids) (getD starts n 0 + (getD (x .postings) n 0 + more) - 1) (step / steps))
+    (set (x .ids) (getD starts n 0 + (getD (x .postings) n 0 + more) - 1) bar)
     (set (x .counts) (getD starts n 0 + (getD (x .postings) n 0 + more) - 1) count)
-    (set (x .steps) (getD marks n 0 + (getD (x .positions) n 0 + new) - 1) (step % steps))
+    (set (x .steps) (getD marks n 0 + (getD (x .positions) n 0 + new) - 1) position)
     ≡ stored starts marks n step steps x
-stored-as starts marks n step steps x e f g = rw (g, f, e)
+stored-as starts marks n step steps x e f g b p = rw (p, b, g, f, e)

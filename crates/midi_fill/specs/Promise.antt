@@ -7,15 +7,13 @@ use Rattle.segment.specs.Results.{Result, ok, refuse}
 use Rattle.midi_read.specs.Files.{grid, first-event}
 use Rattle.midi_read.specs.Walks.{walk}
 use Rattle.midi_count.specs.Tallies.{Tallies, fresh, opens, tally}
-use Rattle.midi_count.specs.Promise.{tallies, Low}
+use Rattle.midi_count.specs.Promise.{tallies, Low, In-bar}
 use Rattle.midi_fill.specs.Stores.{Buffers, put}
 
 -- a hit that can be stored
-pub record Puttable (starts marks : List ℕ) (note step steps : ℕ) (x : Buffers) : Type 0 where
+pub record Puttable (starts marks : List ℕ) (note step bar steps : ℕ) (x : Buffers) : Type 0 where
   pub known : note < 128
-  pub near : step ≤ 4194304
-  pub some-steps : 1 ≤ steps
-  pub steps-few : steps ≤ 64
+  pub in-bar : In-bar step bar steps
   pub postings-low : Low 16777216 (x .postings)
   pub positions-low : Low 16777216 (x .positions)
   pub inside-low : Low 16777216 (x .inside)

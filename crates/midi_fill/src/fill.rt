@@ -33,16 +33,17 @@ fn put_hit(
     places: &mut [u32],
     note: usize,
     step: u64,
+    bar: u64,
     steps: u64,
 )
-    requires { ⌜ Puttable (now starts) (now marks) note step steps
+    requires { ⌜ Puttable (now starts) (now marks) note step bar steps
         (buffers (now last) (now postings) (now positions) (now inside) (now ids) (now counts) (now places)) ⌝ }
     ensures { λ r. ⌜ buffers (left last) (left postings) (left positions) (left inside) (left ids) (left counts) (left places)
         ≡ stored (was starts) (was marks) note step steps
         (buffers (was last) (was postings) (was positions) (was inside) (was ids) (was counts) (was places)) ⌝ }
 {
     let before = last[note];
-    let more = does_open(before, step, steps);
+    let more = does_open(before, step, bar, steps);
     let new = is_fresh(before, step);
     let held = postings[note] + more;
     let marked = positions[note] + new;
@@ -53,9 +54,9 @@ fn put_hit(
     postings[note] = held;
     positions[note] = marked;
     inside[note] = count;
-    ids[a] = (step / steps) as u32;
+    ids[a] = bar as u32;
     counts[a] = count as u32;
-    places[b] = (step % steps) as u32;
+    places[b] = (step - bar * steps) as u32;
 }
 
 // The hits of a file that was counted, stored; the tables are handed in empty.
@@ -88,7 +89,8 @@ pub fn fill(
         match reader.step(s) {
             Stepped::Sounds(h, next) => {
                 let step = h.tick / ticks;
-                if 65535 < step / steps {
+                let bar = step / steps;
+                if 65535 < bar {
                     return;
                 }
                 let note = h.note as usize;
@@ -104,6 +106,7 @@ pub fn fill(
                     places,
                     note,
                     step,
+                    bar,
                     steps,
                 );
                 reader = next;

@@ -96,8 +96,12 @@ note-hit-requires c κs =
     let w = l .loop .inv .0 in
     record {
       known = a .note;
-      near = near-step _ _ (p .some-steps) (p .steps-few) (omega arith);
-      some-steps = p .some-steps;
+      in-bar = record {
+        near = near-step _ _ (p .some-steps) (p .steps-few) (omega arith);
+        some-steps = p .some-steps;
+        steps-few = p .steps-few;
+        bar-is = refl;
+      };
       postings-low = up-to _ (l .loop .inv .1) (omega (arith, w .inside, w .small));
       positions-low = up-to _ (l .loop .inv .2) (omega (arith, w .inside, w .small));
     }

@@ -54,8 +54,8 @@ enum-known-h c = search needs
 div-step : tie.Need-div-step Inv-loop μ-loop
 div-step c = let l = at-hit c in omega (arith, start l .pre .some-ticks)
 
-div-if1 : tie.Need-div-if1 Inv-loop μ-loop
-div-if1 c = let l = at-hit c in omega (arith, start l .pre .some-steps)
+div-bar : tie.Need-div-bar Inv-loop μ-loop
+div-bar c = let l = at-hit c in omega (arith, start l .pre .some-steps)
 
 same-length : tie.Need-same-length Inv-loop μ-loop
 same-length c = at-hit (c .before) .loop .inv .same-ids
@@ -148,7 +148,7 @@ fill-spec =
     step-requires
     enum-known-h
     div-step
-    div-if1
+    div-bar
     same-length
     same-length-2
     same-length-3

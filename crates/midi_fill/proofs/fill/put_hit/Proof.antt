@@ -1,11 +1,12 @@
 -- One place of each table and of each list.
 -- Assumes nothing.
-use native.Mathlib.Nat.{div-le-self, mod-lt}
+use native.Mathlib.Nat.{div-le-self}
 use native.Mathlib.Omega.{arith}
 use lib.ListN.{getD}
 use denote.Ref.{now}
 use Rattle.midi_fill.specs.Stores.{buffers}
 use Rattle.midi_count.proofs.Tallying.{fresh-le}
+use Rattle.midi_count.proofs.Steps-told.{first-le, in-bar-rest}
 use Rattle.midi_fill.proofs.Storing.{in-last-le, stored-as}
 use borrow.Author.Needs.{needs}
 use Rattle.midi_fill.proofs.fill.put_hit.Statement.{statement}
@@ -103,13 +104,11 @@ mul-inside c = search needs
 element-write-inside : tie.Need-element-write-inside
 element-write-inside c = search needs
 
-div-ids : tie.Need-div-ids
-div-ids c = search needs
-
 cast-ids : tie.Need-cast-ids
 cast-ids c =
     let p = c .before .before .before .before .before .before .before .before .before .before .before .before in
-    omega (arith, div-le-self (p .args .step) (p .args .steps), p .pre .near)
+    let w = p .pre .in-bar in
+    omega (arith, w .bar-is, div-le-self (p .args .step) (p .args .steps), w .near)
 
 mul-ids : tie.Need-mul-ids
 mul-ids c = search needs
@@ -135,16 +134,17 @@ mul-counts c = search needs
 slice-write-counts : tie.Need-slice-write-counts
 slice-write-counts c = search needs
 
-rem-places : tie.Need-rem-places
-rem-places c = search needs
+mul-places : tie.Need-mul-places
+mul-places c = let w = c .before .before .before .before .before .before .before .before .before .before .before .before .pre .in-bar in omega (arith, first-le _ _ _ (w .bar-is), w .near)
+
+sub-places : tie.Need-sub-places
+sub-places c = let w = c .before .before .before .before .before .before .before .before .before .before .before .before .pre .in-bar in omega (arith, first-le _ _ _ (w .bar-is))
 
 cast-places : tie.Need-cast-places
-cast-places c =
-    let p = c .before .before .before .before .before .before .before .before .before .before .before .before in
-    omega (arith, mod-lt (p .args .step) (p .pre .some-steps), p .pre .steps-few)
+cast-places c = let w = c .before .before .before .before .before .before .before .before .before .before .before .before .pre .in-bar in omega (arith, w .near)
 
-mul-places : tie.Need-mul-places
-mul-places c = search needs
+mul-places-2 : tie.Need-mul-places-2
+mul-places-2 c = search needs
 
 slice-write-places : tie.Need-slice-write-places
 slice-write-places c = search needs
@@ -165,6 +165,7 @@ returns c =
     (buffers (now (p .args .last)) (now (p .args .postings)) (now (p .args .positions)) (now (p .args .inside)) (now (p .args .ids))
     (now (p .args .counts)) (now (p .args .places)))
     (c .before .before .before .before .before .before .before .does-open .ensures) (c .before .before .before .before .before .before .is-fresh .ensures) (c .before .before .in-last-bar .ensures)
+    (p .pre .in-bar .bar-is) (in-bar-rest _ _ _ (p .pre .in-bar .bar-is))
 
 pub put-hit-spec : {M : Type 1} → statement M
 put-hit-spec =
@@ -200,16 +201,16 @@ put-hit-spec =
     element-write-positions
     mul-inside
     element-write-inside
-    div-ids
     cast-ids
     mul-ids
     slice-write-ids
     cast-counts
     mul-counts
     slice-write-counts
-    rem-places
-    cast-places
     mul-places
+    sub-places
+    cast-places
+    mul-places-2
     slice-write-places
     same-length
     same-length-2
