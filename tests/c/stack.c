@@ -7,7 +7,7 @@
 #include <string.h>
 #include <ucontext.h>
 
-enum { SEARCH = 65536, MIDI = 65536, OTHER = 4096, PAINT = 0xA5 };
+enum { SEARCH = 65536, MIDI = 16384, OTHER = 4096, PAINT = 0xA5 };
 
 static uint8_t stack[4 * SEARCH];
 static ucontext_t host, guest;
