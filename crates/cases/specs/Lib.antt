@@ -1,6 +1,7 @@
--- Worked cases, each with its digits; the first three files are what they share:
+-- Worked cases, each with its digits; the first four files are what they share:
 pub mod Segments
 pub mod Sealing
+pub mod Midi-made
 pub mod Through
 pub mod Asked
 pub mod Checksums
@@ -13,6 +14,12 @@ pub mod From-records
 pub mod Headers
 pub mod Listed
 pub mod Lists
+pub mod Midi-asked
+pub mod Midi-bars
+pub mod Midi-ends
+pub mod Midi-events
+pub mod Midi-files
+pub mod Midi-refusals
 pub mod Near-misses
 pub mod Not-written
 pub mod Numbers

@@ -1,4 +1,5 @@
--- Document 01's numbers, as its "Replies and refusals" lists them. Elsewhere in this crate a refusal is three digits.
+-- Document 01's numbers, as its "Replies and refusals" lists them, and those that document 02 adds. Elsewhere in this crate a refusal is
+-- three digits.
 use Prim.Native.Nat.{ℕ}
 use mathlib.Core.Path.{_≡_, refl}
 use mathlib.Core.List.{[], _∷_}
@@ -10,7 +11,7 @@ use Rattle.segment.specs.Refusals.{directory-length-mismatch, empty-term, non-i
 use Rattle.segment.specs.Refusals.{non-increasing-posting-id, unknown-document, empty-position-list, non-increasing-position}
 use Rattle.segment.specs.Refusals.{position-exceeds-length, trailing-posting-bytes, document-lengths-not-increasing, terms-not-increasing}
 use Rattle.segment.specs.Refusals.{posting-id-gap-underflow, posting-ids-not-increasing, position-gap-underflow, positions-not-increasing}
-use Rattle.segment.specs.Refusals.{written-position-exceeds-length}
+use Rattle.segment.specs.Refusals.{written-position-exceeds-length, midi-file, bar-too-far}
 
 -- 1 header, 2 term directory, 3 term bytes, 4 document metadata, 5 postings, 6 term postings
 sections : header ∷ term-directory ∷ term-bytes ∷ document-metadata ∷ postings ∷ term-postings ∷ [] ≡ 1 ∷ 2 ∷ 3 ∷ 4 ∷ 5 ∷ 6 ∷ []
@@ -93,3 +94,11 @@ kind-12 = refl
 -- 13 no room (which: the buffer's place from 1; index: the length needed)
 kind-13 : (buffer needed : ℕ) → no-room buffer needed ≡ record { kind = 13; which = buffer; index = needed }
 kind-13 buffer needed = refl
+
+-- 14 outside the rules for a MIDI file (index: 0 for the header, 14 for the track's heading, else the offset of the event's delta time)
+kind-14 : (index : ℕ) → midi-file index ≡ record { kind = 14; which = 0; index = index }
+kind-14 index = refl
+
+-- 15 a hit beyond bar 65,535
+kind-15 : bar-too-far ≡ record { kind = 15; which = 0; index = 0 }
+kind-15 = refl

@@ -30,6 +30,11 @@ use Rattle.rules.specs.Rules as rules
 use Rattle.rules.specs.Different.{different}
 use Rattle.calls.specs.Questions.{under, decode-names, check-names, check-question, two-checks, answer, answers, search, search-text}
 use Rattle.calls.specs.Questions.{search-two}
+use Rattle.midi_read.specs.Files as midi
+use Rattle.midi_bars.specs.Bars.{rising-from, bar-count, sounds-of, bars-of, given-of, lists-of}
+use Rattle.midi_bars.specs.Bars as bars
+use Rattle.midi_bars.specs.Imports.{import-file, import-into, roomy-all}
+use Rattle.midi_bars.specs.Words.{note-ons}
 
 unfoldable pub numbers : Unit {0}
 unfolding uleb128 encoded chunks
@@ -97,3 +102,15 @@ unfoldable pub listing-lines : Unit {0}
 unfolding opening listing listable refusal-line count-line document-lines document-line entry-lines entry-line name-column column digits
     octets value decoded-from decoded
 listing-lines = tt
+
+unfoldable pub heading-read : Unit {0}
+unfolding same midi.header midi.heading midi.chunks import-file import-into
+heading-read = tt
+
+unfoldable pub hearing : Unit {0}
+unfolding heading-read midi.number-from midi.message midi.skipped midi.meta midi.by-status midi.read-event midi.hits-from midi.hits note-ons
+hearing = tt
+
+unfoldable pub importing : Unit {0}
+unfolding hearing some-of kept rising-from bar-count sounds-of bars-of bars.positions-of given-of lists-of laid-flat roomy-all
+importing = tt
