@@ -1,12 +1,12 @@
 -- What stands before the events: numbers of two and four bytes, the high one first, and each way out of the two chunks.
 -- Assumes nothing.
 use mathlib.Core.Path.{_≡_, refl, sym, ap, _∙_}
-use mathlib.Core.Bool.{Bool, true, false, cond, _&&_}
+use mathlib.Core.Bool.{Bool, true, false}
 use mathlib.Core.List.{List, [], _∷_}
 use Prim.Native.Nat.{ℕ, _+_, _-_, _*_, _/_, _%_, _≤_, _<_}
 use native.Mathlib.Nat.{add-zero}
 use native.Mathlib.Omega.{arith}
-use lib.Dec.{ltb, leb, eqb}
+use lib.Dec.{eqb}
 use lib.ListN.{length, take, drop, getD, length-drop}
 use lib.Seq.{getD-drop, take-all}
 use borrow.Author.Tests.{le-leb, lt-leb, lt-ltb, le-ltb, eq-eqb, ne-eqb}
@@ -90,7 +90,8 @@ module _ (quarter : ℕ) (file : List ℕ) where
 pub from-14 : (file : List ℕ) {b r : Bool} → r ≡ same (take 4 (take (length file - 14) (drop 14 file))) heading-start → r ≡ b
     → same (take 4 (drop 14 file)) heading-start ≡ b
 from-14 file e f =
-    ap (λ (l : List ℕ). same (take 4 l) heading-start) (sym (take-all (length file - 14) (drop 14 file) (rw length-drop (omega arith)))) ∙ sym e ∙ f
+    let all = sym (take-all (length file - 14) (drop 14 file) (rw length-drop (omega arith))) in
+    ap (λ (l : List ℕ). same (take 4 l) heading-start) all ∙ sym e ∙ f
 
 module _ (file : List ℕ) where
   abbrev T : Checked

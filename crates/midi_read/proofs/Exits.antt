@@ -1,20 +1,18 @@
 -- Each way out of an event, as the reader answers it.
 -- Assumes nothing.
-use mathlib.Core.Path.{_≡_, refl, sym, ap, _∙_}
-use mathlib.Core.Bool.{Bool, true, false, cond}
+use mathlib.Core.Path.{_≡_}
+use mathlib.Core.Bool.{true, false}
 use mathlib.Core.List.{List}
-use mathlib.Core.Option.{Option, none, some}
+use mathlib.Core.Option.{none, some}
 use Prim.Native.Nat.{ℕ, _+_, _≤_, _<_}
-use native.Mathlib.Omega.{arith}
-use lib.Dec.{ltb, leb, eqb}
 use lib.ListN.{length, getD}
 use borrow.Author.Tests.{lt-ltb, le-ltb, le-leb, lt-leb, eq-eqb, ne-eqb}
-use Rattle.segment.specs.Results.{Result}
 use Rattle.midi_read.specs.declared.track.Reader.{Reader}
 use Rattle.midi_read.specs.declared.track.Stepped.{Stepped}
 use Rattle.midi_read.specs.declared.track.Stepped.the-variants.{Sounds, Silent, Ends, Refused}
 use Rattle.segment.specs.Refusals.{midi-file}
-use Rattle.midi_read.specs.Files.{Number, Event, number-from, reader, one-data-byte, is-hit, exclusive, message, skipped, meta, by-status, read-event}
+use Rattle.midi_read.specs.Files.{number-from, reader, one-data-byte, is-hit, exclusive}
+use Rattle.midi_read.specs.Files.{message, skipped, meta, by-status, read-event}
 use Rattle.midi_read.specs.Promise.{event-answer}
 use Rattle.midi_read.proofs.Numbers.{numbered}
 
@@ -47,7 +45,13 @@ module _ (start : ℕ) (file : List ℕ) (status at tick : ℕ) where
           pub message-high2 : 128 ≤ getD file (at + 1) 0 → Refused (midi-file start) ≡ M
           unfolding message
           message-high2 h =
-              rw (lt-ltb at (length file) i, lt-ltb (getD file at 0) 128 l, two, lt-ltb (at + 1) (length file) j, le-ltb (getD file (at + 1) 0) 128 h)
+              rw (
+                lt-ltb at (length file) i,
+                lt-ltb (getD file at 0) 128 l,
+                two,
+                lt-ltb (at + 1) (length file) j,
+                le-ltb (getD file (at + 1) 0) 128 h,
+              )
 
           module _ (k : getD file (at + 1) 0 < 128) where
             pub message-hit : (x y : ℕ) → x ≡ getD file at 0 → y ≡ getD file (at + 1) 0 → is-hit status (getD file (at + 1) 0) ≡ true
@@ -116,7 +120,13 @@ module _ (start : ℕ) (file : List ℕ) (at tick : ℕ) where
       module _ (t : getD file at 0 ≡ 0x2F) where
         pub meta-cut : length file ≤ at + 1 → Refused (midi-file start) ≡ E
         unfolding meta
-        meta-cut h = rw (lt-ltb at (length file) i, lt-ltb (getD file at 0) 128 l, eq-eqb (getD file at 0) 0x2F t, le-ltb (at + 1) (length file) h)
+        meta-cut h =
+            rw (
+              lt-ltb at (length file) i,
+              lt-ltb (getD file at 0) 128 l,
+              eq-eqb (getD file at 0) 0x2F t,
+              le-ltb (at + 1) (length file) h,
+            )
 
         module _ (j : at + 1 < length file) where
           pub meta-ends : getD file (at + 1) 0 ≡ 0 → Ends (at + 2) ≡ E

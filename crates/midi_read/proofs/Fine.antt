@@ -1,7 +1,7 @@
 -- What an event that was read says: where it ends, at which tick, and that a hit's bytes are in their range. So of all hits of a file.
 -- Assumes nothing.
 use mathlib.Core.Path.{_≡_, refl, sym, ap, _∙_}
-use mathlib.Core.Bool.{Bool, true, false, cond, _&&_}
+use mathlib.Core.Bool.{Bool, true, false, cond}
 use mathlib.Core.List.{List, [], _∷_}
 use mathlib.Core.Option.{Option, none, some}
 use mathlib.Core.Logic.{inl, inr}
@@ -9,17 +9,19 @@ use Prim.Native.Nat.{ℕ, zero, suc, _+_, _/_, _≤_, _<_}
 use native.Mathlib.Omega.{arith}
 use lib.Dec.{ltb, leb, eqb}
 use lib.ListN.{length, getD}
-use borrow.Author.Tests.{ltb-true, leb-true, eqb-true}
+use borrow.Author.Tests.{ltb-true, leb-true}
 use Rattle.common.proofs.Loops.{and-right}
 use Rattle.common.specs.Elements.{_∈_}
-use Rattle.segment.specs.Results.{Result, ok, refuse, _>>=_, check}
+use Rattle.segment.specs.Results.{ok, refuse, _>>=_, check}
 use Rattle.segment.proofs.Binds.{bind-gives, ok-same, refuse-ok}
 use Rattle.segment.proofs.Accepted.{check-gives}
 use Rattle.midi_read.specs.declared.track.Reader.{Reader}
 use Rattle.midi_read.specs.declared.track.Hit.{Hit}
 use Rattle.segment.specs.Refusals.{midi-file, bar-too-far}
-use Rattle.midi_read.specs.Files.{Grid, Number, number-from, found, number, byte, low-byte, Event, sounds, silent, ends, reader, one-data-byte, is-hit, exclusive, two-data-bytes, message, skipped, meta, by-status, read-event, bar-of, after, hits-from, hits, first-event}
-use Rattle.midi_read.specs.Claims.{Audible, Moved, Event-fine, Events-fine, Never-fall, Hits-read, Read-so}
+use Rattle.midi_read.specs.Files.{Grid, Number, number-from, found, number, byte, low-byte, Event, sounds, silent, ends, reader}
+use Rattle.midi_read.specs.Files.{one-data-byte, is-hit, exclusive, two-data-bytes, message, skipped, meta, by-status, read-event}
+use Rattle.midi_read.specs.Files.{bar-of, after, hits-from, hits, first-event}
+use Rattle.midi_read.specs.Claims.{Audible, Moved, Event-fine, Events-fine, Never-fall, Read-so}
 use Rattle.midi_read.proofs.Numbers.{Sized, sized}
 
 -- ---- bytes and numbers that were read
@@ -61,9 +63,11 @@ module _ (start : ℕ) (file : List ℕ) where
       next = record { beyond = omega arith; inside = omega arith; same = refl }
 
       step : (b : Bool) → is-hit status y ≡ b
-          → Placed file at tick (cond b (sounds (record { tick = tick; note = x; velocity = y }) (reader (at + 2) status tick)) (silent (reader (at + 2) status tick)))
+          → let after = reader (at + 2) status tick in
+          Placed file at tick (cond b (sounds (record { tick = tick; note = x; velocity = y }) after) (silent after))
       step true t =
-          (next, refl, record { note = l; some-velocity = omega (arith, ltb-true 0 y (and-right (eqb (status / 16) 9) (ltb 0 y) t)); velocity = omega arith })
+          let some = ltb-true 0 y (and-right (eqb (status / 16) 9) (ltb 0 y) t) in
+          (next, refl, record { note = l; some-velocity = omega (arith, some); velocity = omega arith })
       step false t = next
 
   message-fine : (status at tick : ℕ) (e : Event) → message start file status at tick ≡ ok e → Placed file at tick e
@@ -73,7 +77,8 @@ module _ (start : ℕ) (file : List ℕ) where
       step (one-data-byte status) x (low-gives start file at low .0) (low-gives start file at low .1) g
     where
       step : (b : Bool) (x : ℕ) → at < length file → x < 128
-          → cond b (ok (silent (reader (at + 1) status tick))) (low-byte start file (at + 1) >>= (λ y. ok (two-data-bytes status at tick x y))) ≡ ok e
+          → cond b (ok (silent (reader (at + 1) status tick)))
+          (low-byte start file (at + 1) >>= (λ y. ok (two-data-bytes status at tick x y))) ≡ ok e
           → Placed file at tick e
       step true x i l g = let is : silent (reader (at + 1) status tick) ≡ e = ok-same g in
           rw (sym is) (record { beyond = omega arith; inside = omega arith; same = refl })
@@ -90,35 +95,28 @@ module _ (start : ℕ) (file : List ℕ) where
       let is : silent (reader (n .next + n .value) 0 tick) ≡ e = ok-same k in
       rw (sym is) (record { beyond = omega (arith, s .after); inside = leb-true _ _ t; same = refl })
 
+  -- a place further back serves as well
+  back : (at at′ tick : ℕ) (e : Event) → at′ ≤ at → Placed file at tick e → Placed file at′ tick e
+  back at at′ tick (sounds h next) l (m, t, a) = (record { beyond = omega (arith, m .beyond); inside = m .inside; same = m .same }, t, a)
+  back at at′ tick (silent next) l m = record { beyond = omega (arith, m .beyond); inside = m .inside; same = m .same }
+  back at at′ tick (ends past) l (b, i) = (omega arith, i)
+
   meta-fine : (at tick : ℕ) (e : Event) → meta start file at tick ≡ ok e → Placed file at tick e
   unfolding meta
   meta-fine at tick e f =
       let (x, low, g) = bind-gives (low-byte start file at) _ f in
       step (eqb x 0x2F) g
     where
-      later : Placed file (at + 1) tick e → Placed file at tick e
-      later = behind e
-        where
-          behind : (e : Event) → Placed file (at + 1) tick e → Placed file at tick e
-          behind (sounds h next) (m, t, a) = (record { beyond = omega (arith, m .beyond); inside = m .inside; same = m .same }, t, a)
-          behind (silent next) m = record { beyond = omega (arith, m .beyond); inside = m .inside; same = m .same }
-          behind (ends past) (b, i) = (omega arith, i)
-
       step : (b : Bool)
-          → cond b (byte start file (at + 1) >>= (λ z. check (eqb z 0) (midi-file start) >>= (λ _. ok (ends (at + 2))))) (skipped start file (at + 1) tick) ≡ ok e
+          → cond b (byte start file (at + 1) >>= (λ z. check (eqb z 0) (midi-file start) >>= (λ _. ok (ends (at + 2)))))
+          (skipped start file (at + 1) tick) ≡ ok e
           → Placed file at tick e
       step true g =
           let (z, read, k) = bind-gives (byte start file (at + 1)) _ g in
           let (t, j) = check-gives (eqb z 0) (midi-file start) _ k in
           let is : ends (at + 2) ≡ e = ok-same j in
           rw (sym is) (omega arith, omega (arith, byte-gives start file (at + 1) read .0))
-      step false g = later (skipped-fine (at + 1) tick e g)
-
-  -- a place further back serves as well
-  back : (at at′ tick : ℕ) (e : Event) → at′ ≤ at → Placed file at tick e → Placed file at′ tick e
-  back at at′ tick (sounds h next) l (m, t, a) = (record { beyond = omega (arith, m .beyond); inside = m .inside; same = m .same }, t, a)
-  back at at′ tick (silent next) l m = record { beyond = omega (arith, m .beyond); inside = m .inside; same = m .same }
-  back at at′ tick (ends past) l (b, i) = (omega arith, i)
+      step false g = back (at + 1) at tick e (omega arith) (skipped-fine (at + 1) tick e g)
 
   status-fine : (running at tick b : ℕ) (e : Event) → by-status start file running at tick b ≡ ok e → Placed file at tick e
   unfolding by-status
@@ -137,8 +135,8 @@ module _ (start : ℕ) (file : List ℕ) where
       first false false false true r f = back (at + 1) at tick e (omega arith) (skipped-fine (at + 1) tick e f)
       first false false false false r f = refuse-ok f
 
-moved : (file : List ℕ) (from next : Reader) (n : Number) → Sized file (from .at) 0 4 n → Placed-at file (n .next) (from .tick + n .value) next
-    → Moved file from next
+moved : (file : List ℕ) (from next : Reader) (n : Number) → Sized file (from .at) 0 4 n
+    → Placed-at file (n .next) (from .tick + n .value) next → Moved file from next
 moved file from next n s m = record {
   on = omega (arith, s .after, m .beyond);
   inside = m .inside;
@@ -175,7 +173,8 @@ each-of : (P : Hit → Type 0) (h : Hit) (hs : List Hit) → P h → ((k : Hit) 
 each-of P h hs p f k (inl e) = rw e p
 each-of P h hs p f k (inr m) = f k m
 
-from-fine : (n : ℕ) (g : Grid) (file : List ℕ) (from : Reader) (hs : List Hit) → hits-from n g file from ≡ ok hs → So-far g (from .tick) n hs
+from-fine : (n : ℕ) (g : Grid) (file : List ℕ) (from : Reader) (hs : List Hit) → hits-from n g file from ≡ ok hs
+    → So-far g (from .tick) n hs
 unfolding hits-from
 from-fine zero g file from hs f = refuse-ok f
 from-fine (suc n) g file from hs f =
@@ -183,7 +182,8 @@ from-fine (suc n) g file from hs f =
     step e (events-fine file from e read) k (from-fine n g file)
   where
     step : (e : Event) → Event-fine file from e → after g file (hits-from n g file) e ≡ ok hs
-        → ((next : Reader) (ks : List Hit) → hits-from n g file next ≡ ok ks → So-far g (next .tick) n ks) → So-far g (from .tick) (suc n) hs
+        → ((next : Reader) (ks : List Hit) → hits-from n g file next ≡ ok ks → So-far g (next .tick) n ks)
+        → So-far g (from .tick) (suc n) hs
     step (sounds h next) (m, t, a) k ih =
         let (near, j) = check-gives (leb (bar-of g h) 65535) bar-too-far _ k in
         let (ks, more, same) = bind-gives (hits-from n g file next) _ j in

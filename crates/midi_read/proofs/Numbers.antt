@@ -1,12 +1,10 @@
 -- Variable-length numbers a byte at a time, at a place of a file; how large they are.
 -- Assumes nothing.
-use mathlib.Core.Path.{_≡_, refl, sym, ap, _∙_}
+use mathlib.Core.Path.{_≡_, refl, ap}
 use mathlib.Core.Bool.{Bool, true, false, cond}
 use mathlib.Core.List.{List}
 use mathlib.Core.Option.{Option, none, some}
-use mathlib.Core.Logic.{_⊎_, inl, inr}
-use Prim.Native.Nat.{ℕ, zero, suc, _+_, _*_, _%_, _^_, _≤_, _<_}
-use native.Mathlib.Nat.{pow-suc}
+use Prim.Native.Nat.{ℕ, zero, suc, _+_, _*_, _%_, _≤_, _<_}
 use native.Mathlib.Omega.{arith}
 use lib.Dec.{ltb}
 use lib.ListN.{length, getD}
@@ -74,9 +72,9 @@ sized (suc n) v file at r e =
     step (ltb at (length file)) (ltb (getD file at 0) 128) refl refl e (sized n (v * 128 + getD file at 0 % 128) file (at + 1) r)
   where
     step : (i l : Bool) → ltb at (length file) ≡ i → ltb (getD file at 0) 128 ≡ l
-        → cond i (cond l (some (numbered (v * 128 + getD file at 0) (at + 1))) (number-from n (v * 128 + getD file at 0 % 128) file (at + 1))) none
-        ≡ some r
-        → (number-from n (v * 128 + getD file at 0 % 128) file (at + 1) ≡ some r → Sized file (at + 1) (v * 128 + getD file at 0 % 128) n r)
+        → let w = v * 128 + getD file at 0 % 128 in
+        cond i (cond l (some (numbered (v * 128 + getD file at 0) (at + 1))) (number-from n w file (at + 1))) none ≡ some r
+        → (number-from n w file (at + 1) ≡ some r → Sized file (at + 1) w n r)
         → Sized file at v (suc n) r
     step true true i l e ih =
         let is : numbered (v * 128 + getD file at 0) (at + 1) ≡ r = cc in

@@ -1,20 +1,18 @@
 -- A pass over a file's hits, an event at a time: what is left to do from a reader on is the whole.
 -- Assumes nothing.
-use mathlib.Core.Path.{_≡_, refl, sym, ap, _∙_}
-use mathlib.Core.Bool.{Bool, true, false}
-use mathlib.Core.List.{List, [], _∷_}
-use Prim.Native.Nat.{ℕ, zero, suc, _+_, _-_, _≤_, _<_}
+use mathlib.Core.Path.{_≡_, refl, sym, _∙_}
+use mathlib.Core.List.{List, _∷_}
+use Prim.Native.Nat.{ℕ, zero, suc, _+_, _≤_, _<_}
 use native.Mathlib.Omega.{arith}
-use lib.Dec.{leb, eqb}
 use lib.ListN.{length}
 use borrow.Author.Tests.{le-leb, lt-leb, eq-eqb, ne-eqb}
 use Rattle.segment.specs.declared.refusal.Refusal.{Refusal}
-use Rattle.segment.specs.Results.{Result, ok, refuse, _>>=_, check}
+use Rattle.segment.specs.Results.{Result, ok, refuse, _>>=_}
 use Rattle.midi_read.specs.declared.track.Reader.{Reader}
 use Rattle.midi_read.specs.declared.track.Hit.{Hit}
 use Rattle.midi_read.specs.declared.track.Stepped.the-variants.{Sounds, Silent, Ends, Refused}
 use Rattle.segment.specs.Refusals.{midi-file, bar-too-far}
-use Rattle.midi_read.specs.Files.{Grid, Event, sounds, silent, ends, number-from, read-event, bar-of, after, hits-from}
+use Rattle.midi_read.specs.Files.{Grid, Event, sounds, silent, ends, read-event, bar-of, after, hits-from}
 use Rattle.midi_read.specs.Promise.{event-answer}
 use Rattle.midi_read.specs.Claims.{Event-fine, Moved}
 use Rattle.midi_read.specs.Walks.{over, walk}
@@ -23,7 +21,8 @@ use Rattle.midi_read.proofs.Fine.{events-fine}
 
 -- ---- the number of events allowed has no part in it, once there is one for each byte left
 
-at-end : (n : ℕ) (g : Grid) (file : List ℕ) (from : Reader) → length file ≤ from .at → hits-from n g file from ≡ refuse (midi-file (from .at))
+at-end : (n : ℕ) (g : Grid) (file : List ℕ) (from : Reader) → length file ≤ from .at
+    → hits-from n g file from ≡ refuse (midi-file (from .at))
 unfolding hits-from read-event
 at-end zero g file from h = refl
 at-end (suc n) g file from h = rw (out file (from .at) 3 0 h)
@@ -55,10 +54,8 @@ enough (suc n) (suc m) g file from h k = turn (read-event file from) refl (enoug
 -- the event, and then the rest
 pub unrolled : (g : Grid) (file : List ℕ) (from : Reader)
     → hits-from (length file) g file from ≡ (read-event file from >>= after g file (hits-from (length file) g file))
-unrolled g file from = enough (length file) (suc (length file)) g file from (omega arith) (omega arith) ∙ one-more (length file)
-  where
-    one-more : (n : ℕ) → hits-from (suc n) g file from ≡ (read-event file from >>= after g file (hits-from n g file))
-    one-more n = opened n g file from
+unrolled g file from =
+    enough (length file) (suc (length file)) g file from (omega arith) (omega arith) ∙ opened (length file) g file from
 
 -- ---- what the code's answer says
 
@@ -96,20 +93,24 @@ module _ (file : List ℕ) (from : Reader) where
 
 -- ---- the pass
 
-module _ {S : Type 0} (f : S → Hit → S) (g : Grid) (file : List ℕ) (from : Reader) (s : S) {whole : Result S} (inv : walk f g file from s ≡ whole) where
+module _ {S : Type 0} (f : S → Hit → S) (g : Grid) (file : List ℕ) (from : Reader) (s : S) {whole : Result S}
+    (inv : walk f g file from s ≡ whole) where
   turn : (read-event file from >>= after g file (hits-from (length file) g file) >>= (λ hs. ok (over f s hs))) ≡ whole
   turn = rw (unrolled g file from) at inv
 
   pub walk-hit : {h : Hit} {next : Reader} → event-answer (read-event file from) ≡ Sounds h next → bar-of g h ≤ 65535
       → walk f g file next (f s h) ≡ whole
-  walk-hit {h} {next} e near = collect (hits-from (length file) g file next) (rw (sounds-is (read-event file from) e, le-leb (bar-of g h) 65535 near) at turn)
+  walk-hit {h} {next} e near =
+      collect (hits-from (length file) g file next)
+      (rw (sounds-is (read-event file from) e, le-leb (bar-of g h) 65535 near) at turn)
     where
       collect : (r : Result (List Hit)) → (r >>= (λ hs. ok (h ∷ hs)) >>= (λ hs. ok (over f s hs))) ≡ whole
           → (r >>= (λ hs. ok (over f (f s h) hs))) ≡ whole
       collect (ok hs) e = e
       collect (refuse x) e = e
 
-  pub walk-far : {h : Hit} {next : Reader} → event-answer (read-event file from) ≡ Sounds h next → 65535 < bar-of g h → refuse bar-too-far ≡ whole
+  pub walk-far : {h : Hit} {next : Reader} → event-answer (read-event file from) ≡ Sounds h next → 65535 < bar-of g h
+      → refuse bar-too-far ≡ whole
   walk-far {h} e far = rw (sounds-is (read-event file from) e, lt-leb (bar-of g h) 65535 far) at turn
 
   pub walk-silent : {next : Reader} → event-answer (read-event file from) ≡ Silent next → walk f g file next s ≡ whole

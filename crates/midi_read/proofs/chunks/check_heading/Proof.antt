@@ -1,5 +1,4 @@
 use denote.Ref.{now}
-use native.Mathlib.Omega.{arith}
 use borrow.Author.Needs.{needs}
 use borrow.Author.Tests.{not-true, not-false}
 use Rattle.midi_read.proofs.Chunked.{from-14, heading-short, heading-other, heading-unfit, heading-fits}
@@ -32,9 +31,11 @@ midi-file-requires-2 c κs = search needs
 
 returns-2 : tie.Need-returns-2
 returns-2 c =
-    let i = c .before in
+    let told = c .before .before in
+    let file = now (told .before .before .before .before .before .args .s) in
     rw (c .midi-file2 .ensures)
-    (heading-other (now (i .before .before .before .before .before .before .args .s)) (i .before .before .before .before .if1 .left) (from-14 (now (i .before .before .before .before .before .before .args .s)) (i .before .starts-with .ensures) (not-true _ (i .if2 .taken))))
+    (heading-other file (told .before .before .before .if1 .left)
+    (from-14 file (told .starts-with .ensures) (not-true _ (c .before .if2 .taken))))
 
 read-u32-at-requires : tie.Need-read-u32-at-requires
 read-u32-at-requires c κs = search needs
@@ -51,14 +52,20 @@ midi-file-requires-3 c κs = search needs
 returns-3 : tie.Need-returns-3
 returns-3 c =
     let i = c .before in
+    let told = i .before .before .before in
+    let file = now (told .before .before .before .before .before .args .s) in
     rw (c .midi-file3 .ensures)
-    (heading-unfit (now (i .before .before .before .before .before .before .before .before .args .s)) (i .before .before .before .before .before .before .if1 .left)
-    (from-14 (now (i .before .before .before .before .before .before .before .before .args .s)) (i .before .before .before .starts-with .ensures) (not-false _ (i .before .before .if2 .left))) (i .before .read-u32-at .ensures) (i .if3 .taken))
+    (heading-unfit file (told .before .before .before .if1 .left)
+    (from-14 file (told .starts-with .ensures) (not-false _ (i .before .before .if2 .left)))
+    (i .before .read-u32-at .ensures) (i .if3 .taken))
 
 returns-4 : tie.Need-returns-4
 returns-4 c =
-    heading-fits (now (c .before .before .before .before .before .before .before .before .args .s)) (c .before .before .before .before .before .before .if1 .left)
-    (from-14 (now (c .before .before .before .before .before .before .before .before .args .s)) (c .before .before .before .starts-with .ensures) (not-false _ (c .before .before .if2 .left))) (c .before .read-u32-at .ensures) (c .if3 .left)
+    let told = c .before .before .before in
+    let file = now (told .before .before .before .before .before .args .s) in
+    heading-fits file (told .before .before .before .if1 .left)
+    (from-14 file (told .starts-with .ensures) (not-false _ (c .before .before .if2 .left)))
+    (c .before .read-u32-at .ensures) (c .if3 .left)
 
 pub check-heading-spec : {M : Type 1} → statement M
 check-heading-spec =

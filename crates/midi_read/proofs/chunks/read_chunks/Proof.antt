@@ -1,6 +1,5 @@
 use mathlib.Core.Path.{sym, _∙_}
 use denote.Ref.{now}
-use native.Mathlib.Omega.{arith}
 use borrow.Author.Needs.{needs}
 use Rattle.midi_read.proofs.Chunked.{chunks-large, chunks-header, chunks-heading, chunks-fit}
 use Rattle.midi_read.proofs.chunks.read_chunks.Statement.{statement}
@@ -36,24 +35,30 @@ returns-2 : tie.Need-returns-2
 returns-2 c =
     let h = c .before .before .before in
     record {
-      answer = λ steps. chunks-header steps _ (now (h .before .before .before .args .s)) (h .before .if1 .left) (sym (h .read-header .ensures) ∙ c .before .x .given .1);
+      answer = λ steps.
+          chunks-header steps _ (now (h .before .before .before .args .s)) (h .before .if1 .left)
+          (sym (h .read-header .ensures) ∙ c .before .x .given .1);
     }
 
 returns-3 : tie.Need-returns-3
 returns-3 c =
-    let h = c .before .before .before .before .before .before .before in
+    let t = c .before .before .before .before .before in
+    let h = t .before .before in
     record {
       answer = λ steps.
-          chunks-heading steps _ (now (h .before .before .before .args .s)) (h .before .if1 .left) (sym (h .read-header .ensures) ∙ c .before .before .before .before .before .ticks .given .1)
+          chunks-heading steps _ (now (h .before .before .before .args .s)) (h .before .if1 .left)
+          (sym (h .read-header .ensures) ∙ t .ticks .given .1)
           (sym (c .before .before .before .check-heading .ensures) ∙ c .before .x2 .given .1);
     }
 
 returns-4 : tie.Need-returns-4
 returns-4 c =
-    let h = c .before .before .before .before .before .before in
+    let t = c .before .before .before .before in
+    let h = t .before .before in
     record {
       answer = λ steps.
-          chunks-fit steps _ (now (h .before .before .before .args .s)) (h .before .if1 .left) (sym (h .read-header .ensures) ∙ c .before .before .before .before .ticks .given .1)
+          chunks-fit steps _ (now (h .before .before .before .args .s)) (h .before .if1 .left)
+          (sym (h .read-header .ensures) ∙ t .ticks .given .1)
           (sym (c .before .before .check-heading .ensures) ∙ c .enum-told .given .1);
     }
 

@@ -1,6 +1,5 @@
 use mathlib.Core.Path.{sym, _∙_}
 use denote.Ref.{now}
-use native.Mathlib.Omega.{arith}
 use borrow.Author.Needs.{needs}
 use borrow.Author.Tests.{not-true, not-false}
 use Rattle.midi_read.proofs.Chunked.{header-short, header-other, header-unfit, header-fits}
@@ -29,7 +28,8 @@ returns-2 c =
     let i = c .before in
     let a = i .before .before .before .before .before .args in
     rw (c .midi-file2 .ensures)
-    (header-other (a .quarter) (now (a .s)) (i .before .before .before .if1 .left) (sym (i .before .starts-with .ensures) ∙ not-true _ (i .if2 .taken)))
+    (header-other (a .quarter) (now (a .s)) (i .before .before .before .if1 .left)
+    (sym (i .before .starts-with .ensures) ∙ not-true _ (i .if2 .taken)))
 
 read-u16-at-requires : tie.Need-read-u16-at-requires
 read-u16-at-requires c κs = search needs
@@ -46,8 +46,8 @@ returns-3 c =
     let a = i .before .before .before .before .before .before .before .before .args in
     let starts = sym (i .before .before .before .before .starts-with .ensures) ∙ not-false _ (i .before .before .before .if2 .left) in
     rw (c .midi-file3 .ensures)
-    (header-unfit (a .quarter) (now (a .s)) (i .before .before .before .before .before .before .if1 .left) starts (i .before .before .read-u16-at .ensures)
-    (sym (i .before .is-division .ensures) ∙ not-true _ (i .if3 .taken)))
+    (header-unfit (a .quarter) (now (a .s)) (i .before .before .before .before .before .before .if1 .left) starts
+    (i .before .before .read-u16-at .ensures) (sym (i .before .is-division .ensures) ∙ not-true _ (i .if3 .taken)))
 
 div-wide : tie.Need-div-wide
 div-wide c = search needs
@@ -60,8 +60,8 @@ returns-4 c =
     let i = c .before in
     let a = i .before .before .before .before .before .before .before .before .args in
     let starts = sym (i .before .before .before .before .starts-with .ensures) ∙ not-false _ (i .before .before .before .if2 .left) in
-    header-fits (a .quarter) (now (a .s)) (i .before .before .before .before .before .before .if1 .left) starts (i .before .before .read-u16-at .ensures)
-    (sym (i .before .is-division .ensures) ∙ not-false _ (i .if3 .left)) (c .wide .ensures)
+    header-fits (a .quarter) (now (a .s)) (i .before .before .before .before .before .before .if1 .left) starts
+    (i .before .before .read-u16-at .ensures) (sym (i .before .is-division .ensures) ∙ not-false _ (i .if3 .left)) (c .wide .ensures)
 
 pub read-header-spec : {M : Type 1} → statement M
 read-header-spec =

@@ -10,7 +10,9 @@ abbrev start : tie.After-byte4 → tie.After-shared-slice-known
 start c = c .before .before .before .before .before .before .before .before
 
 -- each byte is below 256
-below : (c : tie.After-byte4) → (c .before .before .before .before .before .before .byte .result < 256) × (c .before .before .before .before .byte2 .result < 256) × (c .before .before .byte3 .result < 256) × (c .byte4 .result < 256)
+below : (c : tie.After-byte4) → let two = c .before .before .before .before in
+    (two .before .before .byte .result < 256) × (two .byte2 .result < 256) × (c .before .before .byte3 .result < 256)
+    × (c .byte4 .result < 256)
 below c =
     let a = start c .before .args .at in
     let byte = start c .shared-slice-known .given in
@@ -70,7 +72,9 @@ add-result-3 c = let b = below c in omega arith
 returns : tie.Need-returns
 returns c =
     let a = start c .before .args in
-    four (now (a .s)) (a .at) (start c .before .pre) (c .before .before .before .before .before .before .byte .ensures) (c .before .before .before .before .byte2 .ensures) (c .before .before .byte3 .ensures) (c .byte4 .ensures)
+    let two = c .before .before .before .before in
+    four (now (a .s)) (a .at) (start c .before .pre) (two .before .before .byte .ensures) (two .byte2 .ensures)
+    (c .before .before .byte3 .ensures) (c .byte4 .ensures)
 
 pub read-u32-at-spec : {M : Type 1} → statement M
 read-u32-at-spec =

@@ -1,13 +1,13 @@
 -- Each byte with the high bit leaves the rest of the number to read.
 -- Assumes nothing.
-use mathlib.Core.Path.{_≡_, refl, sym, ap, _∙_}
+use mathlib.Core.Path.{_≡_, refl, _∙_}
 use mathlib.Core.List.{List}
-use mathlib.Core.Option.{Option, none, some}
+use mathlib.Core.Option.{none}
 use Prim.Native.Nat.{ℕ, _+_, _*_, _%_}
 use native.Mathlib.Omega.{arith}
-use lib.ListN.{length, getD}
+use lib.ListN.{getD}
 use denote.Ref.{now}
-use Rattle.midi_read.specs.Files.{Number, number-from}
+use Rattle.midi_read.specs.Files.{number-from}
 use Rattle.midi_read.proofs.Numbers.{out, last, more, missing, value}
 use borrow.Author.Needs.{needs}
 use Rattle.midi_read.proofs.track.number.Statement.{statement}

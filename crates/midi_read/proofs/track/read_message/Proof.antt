@@ -1,11 +1,9 @@
 -- Each way out is a law of proofs/Exits.antt.
 -- Assumes nothing.
-use mathlib.Core.Path.{_≡_, refl, sym, ap, _∙_}
+use mathlib.Core.Path.{_≡_, sym, ap, _∙_}
 use mathlib.Core.List.{List}
-use mathlib.Core.Option.{Option, none, some}
-use Prim.Native.Nat.{ℕ, _+_, _*_, _%_}
+use Prim.Native.Nat.{ℕ}
 use native.Mathlib.Omega.{arith}
-use lib.ListN.{length, getD}
 use denote.Ref.{now}
 use mathlib.Core.Bool.{false}
 use Rattle.midi_read.specs.Files.{one-data-byte, is-hit}
@@ -41,7 +39,8 @@ break-at-requires-2 c κs = search needs
 returns-2 : tie.Need-returns-2
 returns-2 c =
     let p = c .before .before .before .before .before .before in
-    c .break-at2 .ensures ∙ message-high (p .args .start) (bytes p) (p .args .status) (p .args .at) (p .args .tick) (omega arith) (omega arith)
+    c .break-at2 .ensures ∙ message-high (p .args .start) (bytes p) (p .args .status) (p .args .at) (p .args .tick)
+    (omega arith) (omega arith)
 
 add-at1 : tie.Need-add-at1
 add-at1 c = search needs
@@ -52,7 +51,8 @@ has-one-data-byte-requires c κs = search needs
 returns-3 : tie.Need-returns-3
 returns-3 c =
     let p = c .before .before .before .before .before .before .before in
-    message-one (p .args .start) (bytes p) (p .args .status) (p .args .at) (p .args .tick) (omega arith) (omega arith) (sym (c .before .has-one-data-byte .ensures) ∙ c .if3 .taken)
+    message-one (p .args .start) (bytes p) (p .args .status) (p .args .at) (p .args .tick) (omega arith) (omega arith)
+    (sym (c .before .has-one-data-byte .ensures) ∙ c .if3 .taken)
 
 break-at-requires-3 : tie.Need-break-at-requires-3
 break-at-requires-3 c κs = search needs
@@ -60,7 +60,8 @@ break-at-requires-3 c κs = search needs
 returns-4 : tie.Need-returns-4
 returns-4 c =
     let p = c .before .before .before .before .before .before .before .before .before in
-    c .break-at3 .ensures ∙ message-cut (p .args .start) (bytes p) (p .args .status) (p .args .at) (p .args .tick) (omega arith) (omega arith) (two (c .before .before)) (omega arith)
+    c .break-at3 .ensures ∙ message-cut (p .args .start) (bytes p) (p .args .status) (p .args .at) (p .args .tick)
+    (omega arith) (omega arith) (two (c .before .before)) (omega arith)
 
 shared-slice-read-byte-2 : tie.Need-shared-slice-read-byte-2
 shared-slice-read-byte-2 c = search needs
@@ -74,7 +75,8 @@ break-at-requires-4 c κs = search needs
 returns-5 : tie.Need-returns-5
 returns-5 c =
     let p = c .before .before .before .before .before .before .before .before .before .before .before .before in
-    c .break-at4 .ensures ∙ message-high2 (p .args .start) (bytes p) (p .args .status) (p .args .at) (p .args .tick) (omega arith) (omega arith) (two (c .before .before .before .before .before)) (omega arith) (omega arith)
+    c .break-at4 .ensures ∙ message-high2 (p .args .start) (bytes p) (p .args .status) (p .args .at) (p .args .tick)
+    (omega arith) (omega arith) (two (c .before .before .before .before .before)) (omega arith) (omega arith)
 
 add-t10 : tie.Need-add-t10
 add-t10 c = search needs
@@ -84,15 +86,21 @@ is-a-hit-requires c κs = search needs
 
 returns-6 : tie.Need-returns-6
 returns-6 c =
-    let p = c .before .before .before .before .before .before .before .before .before .before .before .before .before in
-    message-hit (p .args .start) (bytes p) (p .args .status) (p .args .at) (p .args .tick) (omega arith) (omega arith) (two (c .before .before .before .before .before .before)) (omega arith) (omega arith) _ _ (c .before .before .before .before .before .before .before .before .before .byte .ensures) (c .before .before .before .byte2 .ensures)
-    (ap (is-hit (p .args .status)) (sym (c .before .before .before .byte2 .ensures)) ∙ sym (c .before .is-a-hit .ensures) ∙ c .if6 .taken)
+    let read = c .before .before .before in
+    let one = read .before .before .before in
+    let p = one .before .before .before .before .before .before .before in
+    message-hit (p .args .start) (bytes p) (p .args .status) (p .args .at) (p .args .tick) (omega arith) (omega arith) (two one)
+    (omega arith) (omega arith) _ _ (one .before .before .before .byte .ensures) (read .byte2 .ensures)
+    (ap (is-hit (p .args .status)) (sym (read .byte2 .ensures)) ∙ sym (c .before .is-a-hit .ensures) ∙ c .if6 .taken)
 
 returns-7 : tie.Need-returns-7
 returns-7 c =
-    let p = c .before .before .before .before .before .before .before .before .before .before .before .before .before in
-    message-silent (p .args .start) (bytes p) (p .args .status) (p .args .at) (p .args .tick) (omega arith) (omega arith) (two (c .before .before .before .before .before .before)) (omega arith) (omega arith)
-    (ap (is-hit (p .args .status)) (sym (c .before .before .before .byte2 .ensures)) ∙ sym (c .before .is-a-hit .ensures) ∙ c .if6 .left)
+    let read = c .before .before .before in
+    let one = read .before .before .before in
+    let p = one .before .before .before .before .before .before .before in
+    message-silent (p .args .start) (bytes p) (p .args .status) (p .args .at) (p .args .tick) (omega arith) (omega arith) (two one)
+    (omega arith) (omega arith)
+    (ap (is-hit (p .args .status)) (sym (read .byte2 .ensures)) ∙ sym (c .before .is-a-hit .ensures) ∙ c .if6 .left)
 
 pub read-message-spec : {M : Type 1} → statement M
 read-message-spec =

@@ -1,11 +1,9 @@
 -- Each way out is a law of proofs/Exits.antt.
 -- Assumes nothing.
-use mathlib.Core.Path.{_≡_, refl, sym, ap, _∙_}
+use mathlib.Core.Path.{_∙_}
 use mathlib.Core.List.{List}
-use mathlib.Core.Option.{Option, none, some}
-use Prim.Native.Nat.{ℕ, _+_, _*_, _%_}
+use Prim.Native.Nat.{ℕ}
 use native.Mathlib.Omega.{arith}
-use lib.ListN.{length, getD}
 use denote.Ref.{now}
 use Rattle.midi_read.proofs.Exits.{meta-out, meta-high, meta-skipped, meta-cut, meta-ends, meta-wrong}
 use borrow.Author.Needs.{needs}
@@ -46,7 +44,8 @@ break-at-requires-3 c κs = search needs
 returns-3 : tie.Need-returns-3
 returns-3 c =
     let p = c .before .before .before .before .before .before .before .before in
-    c .break-at3 .ensures ∙ meta-cut (p .args .start) (bytes p) (p .args .at) (p .args .tick) (omega arith) (omega arith) (omega arith) (omega arith)
+    c .break-at3 .ensures ∙ meta-cut (p .args .start) (bytes p) (p .args .at) (p .args .tick)
+    (omega arith) (omega arith) (omega arith) (omega arith)
 
 shared-slice-read-byte-2 : tie.Need-shared-slice-read-byte-2
 shared-slice-read-byte-2 c = search needs
@@ -68,7 +67,8 @@ break-at-requires-4 c κs = search needs
 returns-5 : tie.Need-returns-5
 returns-5 c =
     let p = c .before .before .before .before .before .before .before .before .before .before .before in
-    c .break-at4 .ensures ∙ meta-wrong (p .args .start) (bytes p) (p .args .at) (p .args .tick) (omega arith) (omega arith) (omega arith) (omega arith) (λ e. c .before .if5 .left (c .before .before .byte2 .ensures ∙ e))
+    c .break-at4 .ensures ∙ meta-wrong (p .args .start) (bytes p) (p .args .at) (p .args .tick)
+    (omega arith) (omega arith) (omega arith) (omega arith) (λ e. c .before .if5 .left (c .before .before .byte2 .ensures ∙ e))
 
 skip-requires : tie.Need-skip-requires
 skip-requires c κs = search needs
@@ -76,7 +76,8 @@ skip-requires c κs = search needs
 returns-6 : tie.Need-returns-6
 returns-6 c =
     let p = c .before .before .before .before .before .before .before in
-    c .skip .ensures ∙ meta-skipped (p .args .start) (bytes p) (p .args .at) (p .args .tick) (omega arith) (omega arith) (λ e. c .before .if3 .left (c .before .before .before .byte .ensures ∙ e))
+    c .skip .ensures ∙ meta-skipped (p .args .start) (bytes p) (p .args .at) (p .args .tick)
+    (omega arith) (omega arith) (λ e. c .before .if3 .left (c .before .before .before .byte .ensures ∙ e))
 
 pub read-meta-spec : {M : Type 1} → statement M
 read-meta-spec =

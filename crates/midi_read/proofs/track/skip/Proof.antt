@@ -1,11 +1,10 @@
 -- The length, and as many bytes.
 -- Assumes nothing.
-use mathlib.Core.Path.{_≡_, refl, sym, ap, _∙_}
+use mathlib.Core.Path.{_≡_, sym, _∙_}
 use mathlib.Core.List.{List}
-use mathlib.Core.Option.{Option, none, some}
-use Prim.Native.Nat.{ℕ, _+_, _*_, _%_}
+use mathlib.Core.Option.{some}
+use Prim.Native.Nat.{ℕ}
 use native.Mathlib.Omega.{arith}
-use lib.ListN.{length, getD}
 use denote.Ref.{now}
 use Rattle.midi_read.specs.Files.{number-from}
 use Rattle.midi_read.proofs.Numbers.{numbered, missing-is, found-is, Sized, sized}
@@ -44,7 +43,8 @@ break-at-requires c κs = search needs
 returns : tie.Need-returns
 returns c =
     let p = c .before .before .before .before .before in
-    c .break-at .ensures ∙ skip-none (p .args .start) (bytes p) (p .args .at) (p .args .tick) (missing-is _ (sym (c .before .before .before .number .ensures) ∙ c .before .enum-told .given .1))
+    c .break-at .ensures ∙ skip-none (p .args .start) (bytes p) (p .args .at) (p .args .tick)
+    (missing-is _ (sym (c .before .before .before .number .ensures) ∙ c .before .enum-told .given .1))
 
 cast-size : tie.Need-cast-size
 cast-size c = search needs
@@ -59,7 +59,8 @@ returns-2 : tie.Need-returns-2
 returns-2 c =
     let b = c .before .before in
     let p = start b in
-    c .break-at2 .ensures ∙ skip-over (p .args .start) (bytes p) (p .args .at) (p .args .tick) _ _ (length-found b) (omega (arith, size b .inside))
+    c .break-at2 .ensures ∙ skip-over (p .args .start) (bytes p) (p .args .at) (p .args .tick) _ _ (length-found b)
+    (omega (arith, size b .inside))
 
 add-t9 : tie.Need-add-t9
 add-t9 c = omega (arith, size (c .before) .inside)

@@ -1,15 +1,15 @@
 -- Each way out is a law of proofs/Exits.antt for the delta time that was found.
 -- Assumes nothing.
-use mathlib.Core.Path.{_≡_, refl, sym, ap, _∙_}
+use mathlib.Core.Path.{_≡_, sym, ap, _∙_}
 use mathlib.Core.List.{List}
-use mathlib.Core.Option.{Option, none, some}
-use Prim.Native.Nat.{ℕ, _+_, _*_, _%_}
+use mathlib.Core.Option.{some}
+use Prim.Native.Nat.{ℕ}
 use native.Mathlib.Omega.{arith}
-use lib.ListN.{length, getD}
 use denote.Ref.{now}
 use Rattle.midi_read.specs.Files.{number-from, exclusive}
 use Rattle.midi_read.proofs.Numbers.{numbered, missing-is, found-is, Sized, sized}
-use Rattle.midi_read.proofs.Exits.{event-none, event-out, event-data, event-lost, event-message, event-meta, event-skipped, event-unknown}
+use Rattle.midi_read.proofs.Exits.{event-none, event-out, event-data, event-lost}
+use Rattle.midi_read.proofs.Exits.{event-message, event-meta, event-skipped, event-unknown}
 use borrow.Author.Needs.{needs}
 use Rattle.midi_read.proofs.track.Reader.step.Statement.{statement}
 use Rattle.midi_read.proofs.track.Reader.step.Tie as tie
@@ -44,13 +44,18 @@ break-at-requires c κs = search needs
 returns : tie.Need-returns
 returns c =
     let p = c .before .before .before .before .before in
-    c .break-at .ensures ∙ event-none (bytes p) (p .args .self) (missing-is _ (sym (c .before .before .before .number .ensures) ∙ c .before .enum-told .given .1))
+    c .break-at .ensures ∙ event-none (bytes p) (p .args .self)
+    (missing-is _ (sym (c .before .before .before .number .ensures) ∙ c .before .enum-told .given .1))
 
 cast-tick : tie.Need-cast-tick
 cast-tick c = search needs
 
 add-tick : tie.Need-add-tick
-add-tick c = let b = c .before in omega (arith, size b .most, size b .after, size b .inside, start b .pre .tick, start b .pre .small, start b .pre .inside)
+add-tick c =
+    let b = c .before in
+    let s = size b in
+    let p = start b .pre in
+    omega (arith, s .most, s .after, s .inside, p .tick, p .small, p .inside)
 
 break-at-requires-2 : tie.Need-break-at-requires-2
 break-at-requires-2 c κs = search needs
@@ -95,7 +100,8 @@ returns-5 : tie.Need-returns-5
 returns-5 c =
     let b = c .before .before .before .before .before .before .before in
     let p = start b in
-    c .read-message2 .ensures ∙ event-message (bytes p) (p .args .self) _ _ (delta-found b) (omega arith) (omega arith) _ (c .before .before .before .byte .ensures) (omega arith)
+    c .read-message2 .ensures ∙ event-message (bytes p) (p .args .self) _ _ (delta-found b) (omega arith) (omega arith) _
+    (c .before .before .before .byte .ensures) (omega arith)
 
 read-meta-requires : tie.Need-read-meta-requires
 read-meta-requires c κs = search needs
@@ -114,20 +120,24 @@ skip-requires c κs = search needs
 
 returns-7 : tie.Need-returns-7
 returns-7 c =
-    let b = c .before .before .before .before .before .before .before .before .before .before in
+    let read = c .before .before .before .before .before .before in
+    let b = read .before .before .before .before in
     let p = start b in
-    c .skip .ensures ∙ event-skipped (bytes p) (p .args .self) _ _ (delta-found b) (omega arith) (omega arith) (omega arith) (λ e. c .before .before .before .if5 .left ((c .before .before .before .before .before .before .byte .ensures) ∙ e))
-    (ap exclusive (sym (c .before .before .before .before .before .before .byte .ensures)) ∙ sym (c .before .before .is-exclusive .ensures) ∙ c .before .if6 .taken)
+    c .skip .ensures ∙ event-skipped (bytes p) (p .args .self) _ _ (delta-found b) (omega arith) (omega arith) (omega arith)
+    (λ e. c .before .before .before .if5 .left (read .byte .ensures ∙ e))
+    (ap exclusive (sym (read .byte .ensures)) ∙ sym (c .before .before .is-exclusive .ensures) ∙ c .before .if6 .taken)
 
 break-at-requires-4 : tie.Need-break-at-requires-4
 break-at-requires-4 c κs = search needs
 
 returns-8 : tie.Need-returns-8
 returns-8 c =
-    let b = c .before .before .before .before .before .before .before .before .before .before in
+    let read = c .before .before .before .before .before .before in
+    let b = read .before .before .before .before in
     let p = start b in
-    c .break-at4 .ensures ∙ event-unknown (bytes p) (p .args .self) _ _ (delta-found b) (omega arith) (omega arith) (omega arith) (λ e. c .before .before .before .if5 .left ((c .before .before .before .before .before .before .byte .ensures) ∙ e))
-    (ap exclusive (sym (c .before .before .before .before .before .before .byte .ensures)) ∙ sym (c .before .before .is-exclusive .ensures) ∙ c .before .if6 .left)
+    c .break-at4 .ensures ∙ event-unknown (bytes p) (p .args .self) _ _ (delta-found b) (omega arith) (omega arith) (omega arith)
+    (λ e. c .before .before .before .if5 .left (read .byte .ensures ∙ e))
+    (ap exclusive (sym (read .byte .ensures)) ∙ sym (c .before .before .is-exclusive .ensures) ∙ c .before .if6 .left)
 
 pub step-spec : {M : Type 1} → statement M
 step-spec =
