@@ -1,9 +1,8 @@
 -- There are no more positions than hits.
 -- Assumes nothing.
-use mathlib.Core.Path.{_≡_, refl, sym, ap, _∙_}
+use mathlib.Core.Path.{_≡_, refl, sym}
 use mathlib.Core.Bool.{Bool, true, false, cond, _&&_, _||_}
 use mathlib.Core.List.{List, [], _∷_, _++_, map}
-use mathlib.Core.Logic.{_⊎_, inl, inr}
 use Prim.Native.Nat.{ℕ, zero, suc, _+_, _≤_, _<_}
 use native.Mathlib.Omega.{arith}
 use lib.Dec.{eqb}
@@ -120,7 +119,8 @@ module _ (g : Grid) (N B P : ℕ) where
   pub few-cells : (hs : List Hit) → cells hs ≤ length hs
   unfolding some-of
   few-cells [] =
-      let z : cells [] ≡ 0 = sum-zero _ (rising-from 0 N) (λ n. sum-zero _ (rising-from 0 B) (λ b. sum-zero _ (rising-from 0 P) (λ p. refl))) in
+      let z : cells [] ≡ 0 =
+      sum-zero _ (rising-from 0 N) (λ n. sum-zero _ (rising-from 0 B) (λ b. sum-zero _ (rising-from 0 P) (λ p. refl))) in
       omega arith
   few-cells (h ∷ hs) =
       let split : cells (h ∷ hs) ≤ cell h + cells hs =

@@ -1,39 +1,39 @@
 -- The writer, given room, accepts the lists of a file's hits.
 -- Assumes nothing.
-use mathlib.Core.Path.{_≡_, refl, sym, ap, _∙_}
-use mathlib.Core.Bool.{Bool, true, false, cond, _&&_}
-use mathlib.Core.List.{List, [], _∷_, _++_, map}
+use mathlib.Core.Path.{_≡_, refl, ap, _∙_}
+use mathlib.Core.List.{List, [], _∷_, map}
 use mathlib.Core.Logic.{_⊎_, inl, inr}
-use Prim.Native.Nat.{ℕ, zero, suc, _+_, _*_, _≤_, _<_}
+use Prim.Native.Nat.{ℕ, _*_, _≤_, _<_}
 use native.Mathlib.Omega.{arith}
-use lib.Dec.{ltb, leb}
+use lib.Dec.{leb}
 use borrow.Author.Tests.{eqb-true, leb-true}
-use Rattle.common.proofs.Loops.{lt-or-ge, and-left, and-right}
-use lib.ListN.{length, length-map, length-append}
+use Rattle.common.proofs.Loops.{lt-or-ge}
+use lib.ListN.{length, length-map}
 use Rattle.common.specs.Elements.{_∈_, Rising}
-use Rattle.segment.specs.Records.{Document, Given, Term, Posting}
+use Rattle.segment.specs.Records.{Term, Posting}
 use Rattle.segment.specs.Metadata.{document}
 use Rattle.segment.specs.Refusals.{too-large}
 use Rattle.segment.proofs.Binds.{bind-gives, ok-same}
 use Rattle.segment.proofs.Accepted.{check-gives}
 use Rattle.common.proofs.Elements.{map-from}
-use Rattle.common.specs.Members.{some-of, kept}
-use Rattle.common.proofs.Membership.{some-gives, some-from, kept-gives, map-gives, in-some, append-gives}
+use Rattle.common.specs.Members.{some-of}
+use Rattle.common.proofs.Membership.{some-gives, kept-gives, map-gives, in-some, joined-gives}
 use Rattle.common.proofs.Kept.{kept-fewer}
-use Rattle.calls.specs.Given.{given, laid-flat}
-use Rattle.common.specs.Lists.{joined, total}
-use Rattle.calls.specs.Acceptance.{Names-rising, Posting-fine, Term-fine, Small, Shape, Lists-fine}
+use Rattle.calls.specs.Given.{laid-flat}
+use Rattle.common.specs.Lists.{joined}
+use Rattle.calls.specs.Acceptance.{Names-rising, Posting-fine, Term-fine, Small, Shape}
 use Rattle.midi_read.specs.declared.track.Hit.{Hit}
-use Rattle.midi_read.specs.Files.{Grid, bar-of, position-of, step-of, grid, header, heading, chunks}
+use Rattle.midi_read.specs.Files.{Grid, bar-of, position-of, grid, header, heading, chunks}
 use Rattle.midi_read.proofs.Fine.{read-so}
-use Rattle.midi_bars.specs.Bars.{rising-from, name-of, of-sound, in-bar, on-position, bar-count, sounds-of, bars-of, positions-of, posting-of, term-of, given-of, lists-of}
+use Rattle.midi_bars.specs.Bars.{rising-from, name-of, of-sound, in-bar, on-position, bar-count}
+use Rattle.midi_bars.specs.Bars.{sounds-of, bars-of, positions-of, posting-of, term-of, given-of, lists-of}
 use Rattle.midi_bars.specs.Claims.{Hits-fine, Struck, Accepted, Read-fine}
 use Rattle.midi_bars.proofs.Unflat.{total-joined}
 use Rattle.midi_bars.proofs.Shaped.{flat-shape, ends-count}
 use Rattle.midi_bars.proofs.Ranges.{range-gives, range-from, range-length, range-rising, kept-rising}
 use Rattle.midi_bars.proofs.Named.{name-text, name-before}
 use Rattle.midi_bars.proofs.Counted.{sum, bit, cells, sum-le, sum-kept, sum-append, sum-map, kept-length, few-cells}
-use Rattle.midi_bars.proofs.Struck.{stands-for, bar-gives, bar-some, sounds-gives, position-gives, position-from, bar-from}
+use Rattle.midi_bars.proofs.Struck.{stands-for, bar-gives, bar-some, sounds-gives, position-from, bar-from}
 
 -- ---- pictures of lists that rise
 
@@ -45,15 +45,6 @@ names-rise : (f : ℕ → Term) → ((n : ℕ) → f n .name ≡ name-of n) → 
 names-rise f e [] r = tt
 names-rise f e (n ∷ []) r = tt
 names-rise f e (n ∷ (m ∷ ms)) (up, r) = (rw (e n, e m) (name-before n m up), names-rise f e (m ∷ ms) r)
-
-joined-gives : {A : Type 0} (xss : List (List A)) (x : A) → x ∈ joined xss → (xs : List A) × (xs ∈ xss) × (x ∈ xs)
-joined-gives [] x m = absurd m
-joined-gives {A} (xs ∷ xss) x m = step (append-gives xs (joined xss) x m) (joined-gives xss x)
-  where
-    step : (x ∈ xs) ⊎ (x ∈ joined xss) → (x ∈ joined xss → (ys : List A) × (ys ∈ xss) × (x ∈ ys))
-        → (ys : List A) × (ys ∈ (xs ∷ xss)) × (x ∈ ys)
-    step (inl k) later = (xs, inl refl, k)
-    step (inr k) later = let (ys, m, j) = later k in (ys, inr m, j)
 
 module _ (g : Grid) (hs : List Hit) where
   by-sound : (ns : List ℕ) → sum (λ (p : Posting). length (p .positions)) (joined (map (λ (t : Term). t .postings) (map (term-of g hs) ns)))
@@ -96,7 +87,9 @@ module _ (g : Grid) (hs : List Hit) (fine : Hits-fine g hs) where
       let (p, s) = bar-struck n b m in
       record {
         of = document b (g .steps);
-        known = map-from (λ b. document b (g .steps)) (rising-from 0 (bar-count g hs)) b (range-from 0 (bar-count g hs) b (omega arith) (omega (arith, bars-below n b m)));
+        known =
+            map-from (λ b. document b (g .steps)) (rising-from 0 (bar-count g hs)) b
+            (range-from 0 (bar-count g hs) b (omega arith) (omega (arith, bars-below n b m)));
         same = refl;
         has-positions = in-some (positions-of g hs n b) p (position-from g hs (fine .a-step) n b p s);
         rising = positions-rise n b;
@@ -121,7 +114,9 @@ module _ (g : Grid) (hs : List Hit) (fine : Hits-fine g hs) where
       record {
         text = name-text n (sounds-gives g hs n m);
         not-empty = omega arith;
-        has-postings = in-some (map (posting-of g hs n) (bars-of g hs n)) (posting-of g hs n b) (map-from (posting-of g hs n) (bars-of g hs n) b (bar-from g hs (fine .a-step) n b p s));
+        has-postings =
+            in-some (map (posting-of g hs n) (bars-of g hs n)) (posting-of g hs n b)
+            (map-from (posting-of g hs n) (bars-of g hs n) b (bar-from g hs (fine .a-step) n b p s));
         rising = bars-rise n;
         each = λ q k. let (b′, j, e) = map-gives (posting-of g hs n) (bars-of g hs n) q k in rw e (posting-fine n b′ j);
       }
@@ -154,7 +149,8 @@ module _ (g : Grid) (hs : List Hit) (fine : Hits-fine g hs) where
       let each = sum-le (λ b. length (positions-of g hs n b)) _ (rising-from 0 (bar-count g hs)) (one-posting n) in
       omega (arith, fewer, each)
 
-  all-sounds : sum (λ n. sum (λ b. length (positions-of g hs n b)) (bars-of g hs n)) (sounds-of g hs) ≤ cells g 128 (bar-count g hs) (g .steps) hs
+  all-sounds : sum (λ n. sum (λ b. length (positions-of g hs n b)) (bars-of g hs n)) (sounds-of g hs)
+      ≤ cells g 128 (bar-count g hs) (g .steps) hs
   unfolding sounds-of
   all-sounds =
       let f : ℕ → ℕ = λ n. sum (λ b. length (positions-of g hs n b)) (bars-of g hs n) in
@@ -173,7 +169,8 @@ module _ (g : Grid) (hs : List Hit) (fine : Hits-fine g hs) where
       )
 
   -- each posting has a position
-  at-least : (ps : List Posting) → ((p : Posting) → p ∈ ps → 0 < length (p .positions)) → length ps ≤ sum (λ (p : Posting). length (p .positions)) ps
+  at-least : (ps : List Posting) → ((p : Posting) → p ∈ ps → 0 < length (p .positions))
+      → length ps ≤ sum (λ (p : Posting). length (p .positions)) ps
   at-least [] h = omega arith
   at-least (p ∷ ps) h = omega (arith, h p (inl refl), at-least ps (λ q m. h q (inr m)))
 

@@ -1,14 +1,14 @@
 -- The names of the notes: text in UTF-8, different for different notes, rising with them.
 -- Assumes nothing.
 use mathlib.Core.Path.{_≡_, refl, sym, ap, _∙_}
-use mathlib.Core.List.{List, [], _∷_, map}
+use mathlib.Core.List.{List, [], _∷_}
 use mathlib.Core.Logic.{_⊎_, inl, inr}
 use Prim.Native.Nat.{ℕ, _+_, _*_, _/_, _%_, _≤_, _<_}
 use native.Mathlib.Omega.{arith}
 use lib.ListN.{getD}
 use borrow.Author.Tests.{lt-ltb}
 use Rattle.common.proofs.Loops.{lt-or-ge}
-use Rattle.utf8.specs.Utf8.{Is-utf8, octets, text}
+use Rattle.utf8.specs.Utf8.{Is-utf8, octets}
 use Rattle.segment.specs.Names.{Before}
 use Rattle.midi_bars.specs.Bars.{name-of}
 
@@ -34,8 +34,9 @@ same-digits a b c x y z e f g = omega arith
 
 pub name-one : (m n : ℕ) → name-of m ≡ name-of n → m ≡ n
 name-one m n e =
+    let byte : (i : ℕ) → getD (name-of m) i 0 ≡ getD (name-of n) i 0 = λ i. ap (λ (l : List ℕ). getD l i 0) e in
     digits m
-    ∙ same-digits (m / 100) (m / 10 % 10) (m % 10) (n / 100) (n / 10 % 10) (n % 10) (ap (λ (l : List ℕ). getD l 1 0) e) (ap (λ (l : List ℕ). getD l 2 0) e) (ap (λ (l : List ℕ). getD l 3 0) e)
+    ∙ same-digits (m / 100) (m / 10 % 10) (m % 10) (n / 100) (n / 10 % 10) (n % 10) (byte 1) (byte 2) (byte 3)
     ∙ sym (digits n)
 
 hundreds : (p a b c x y z : ℕ) → a < x → Before (p ∷ a ∷ b ∷ c ∷ []) (p ∷ x ∷ y ∷ z ∷ [])

@@ -1,27 +1,26 @@
 -- The lists' sounds, bars and positions are those of the hits.
 -- Assumes nothing.
 use mathlib.Core.Path.{_≡_, refl, sym, ap, _∙_}
-use mathlib.Core.Bool.{Bool, true, false, cond, _&&_}
+use mathlib.Core.Bool.{Bool, true, false, cond}
 use mathlib.Core.List.{List, [], _∷_, map}
-use mathlib.Core.Logic.{_⊎_, inl, inr, _↔_}
-use Prim.Native.Nat.{ℕ, zero, suc, _+_, _≤_, _<_}
+use mathlib.Core.Logic.{inl, inr, _↔_}
+use Prim.Native.Nat.{ℕ, suc, _≤_, _<_}
 use native.Mathlib.Nat.{mod-lt}
 use native.Mathlib.Omega.{arith}
 use lib.Dec.{eqb, ltb}
-use lib.ListN.{length}
 use borrow.Author.Tests.{eqb-true, eq-eqb, ltb-true, ltb-false}
 use Rattle.common.proofs.Loops.{and-left, and-right}
 use Rattle.common.specs.Elements.{_∈_}
-use Rattle.segment.specs.Records.{Document, Given, Term, Posting}
+use Rattle.segment.specs.Records.{Document, Term, Posting}
 use Rattle.segment.specs.Metadata.{document}
 use Rattle.common.proofs.Elements.{map-from}
 use Rattle.common.specs.Members.{some-of, kept}
 use Rattle.common.proofs.Membership.{some-gives, some-from, kept-gives, kept-from, map-gives}
-use Rattle.calls.specs.Given.{given, laid-flat}
 use Rattle.midi_read.specs.declared.track.Hit.{Hit}
 use Rattle.midi_read.specs.Files.{Grid, bar-of, position-of, step-of}
-use Rattle.midi_bars.specs.Bars.{rising-from, greater, name-of, of-sound, in-bar, on-position, bar-count, sounds-of, bars-of, positions-of, posting-of, term-of, given-of, lists-of}
-use Rattle.midi_bars.specs.Claims.{Hits-fine, Struck, Listed, Holds-hits, Hits-held, Stands-for}
+use Rattle.midi_bars.specs.Bars.{rising-from, name-of, of-sound, in-bar, on-position, bar-count}
+use Rattle.midi_bars.specs.Bars.{sounds-of, bars-of, positions-of, posting-of, term-of, given-of, lists-of}
+use Rattle.midi_bars.specs.Claims.{Struck, Listed, Hits-held, Stands-for}
 use Rattle.midi_bars.proofs.Unflat.{given-back}
 use Rattle.midi_bars.proofs.Ranges.{range-gives, range-from}
 use Rattle.midi_bars.proofs.Named.{name-one}
@@ -164,7 +163,8 @@ module _ (g : Grid) (hs : List Hit) where
       from : (h : Hit) × (h ∈ hs) × (b ≤ bar-of g h) → b ∈ map (λ d. d .id) (given-of g hs .documents)
       from (h, m, l) =
           map-from (λ (d : Document). d .id) (given-of g hs .documents) _
-          (map-from _ (rising-from 0 (bar-count g hs)) b (range-from 0 (bar-count g hs) b (omega arith) (omega (arith, bar-below g hs h m))))
+          (map-from _ (rising-from 0 (bar-count g hs)) b
+          (range-from 0 (bar-count g hs) b (omega arith) (omega (arith, bar-below g hs h m))))
 
 pub hits-held : Hits-held
 hits-held g hs fine = record {

@@ -1,19 +1,17 @@
 -- Nested lists laid flat, and what the flat lists stand for: the nested lists, whatever they are.
 -- Assumes nothing.
-use mathlib.Core.Path.{_≡_, refl, sym, ap, ap₂, _∙_}
-use mathlib.Core.List.{List, [], _∷_, _++_, map}
+use mathlib.Core.Path.{_≡_, refl, ap, ap₂, _∙_}
+use mathlib.Core.List.{List, [], _∷_, map}
 use Prim.Native.Nat.{ℕ, _+_, _-_}
 use native.Mathlib.Omega.{arith}
-use lib.ListN.{length, take, drop, length-map, length-append}
+use lib.ListN.{length, length-append}
 use lib.Seq.{take-append-seam, drop-append-seam}
-use Rattle.segment.specs.Records.{Document, Posting, Term, Given}
+use Rattle.segment.specs.Records.{Posting, Term, Given}
 use Rattle.segment.specs.Metadata.{document}
 use Rattle.segment.specs.Texts.{names}
 use Rattle.common.specs.Lists.{paired}
-use Rattle.calls.specs.Given.{Lists, given, posting, term, postings-given, ends-from, laid-flat}
+use Rattle.calls.specs.Given.{given, posting, term, ends-from, laid-flat}
 use Rattle.common.specs.Lists.{parts, total, joined}
-use Rattle.calls.specs.Acceptance.{Shape}
-use Rattle.segment.proofs.Shapes.{shape-is}
 
 -- two pictures of one list, side by side
 paired-back : {A B C : Type 0} (a : C → A) (b : C → B) (f : A → B → C) → ((c : C) → f (a c) (b c) ≡ c) → (cs : List C)
@@ -44,15 +42,21 @@ module _ (g : Given) where
   abbrev ps : List Posting
   ps = joined (map (λ (t : Term). t .postings) ts)
 
-  postings-back : paired posting (map (λ p. p .doc) ps) (parts (map (λ p. length (p .positions)) ps) (joined (map (λ p. p .positions) ps))) ≡ ps
-  postings-back = rw (parts-back (λ (p : Posting). p .positions) ps) (paired-back (λ p. p .doc) (λ p. p .positions) posting (λ p. refl) ps)
+  abbrev texts : List (List ℕ)
+  texts = map (λ (t : Term). t .name) ts
+
+  postings-back : paired posting (map (λ p. p .doc) ps)
+      (parts (map (λ p. length (p .positions)) ps) (joined (map (λ p. p .positions) ps))) ≡ ps
+  postings-back =
+      rw (parts-back (λ (p : Posting). p .positions) ps) (paired-back (λ p. p .doc) (λ p. p .positions) posting (λ p. refl) ps)
 
   pub given-back : given (laid-flat g) ≡ g
   unfolding given laid-flat
   given-back = λ i. record {
     documents = paired-back (λ d. d .id) (λ d. d .len) document (λ d. refl) (g .documents) i;
     terms =
-        (ap (λ (q : List Posting). paired term (names 0 (ends-from 0 (map (λ t. t .name) ts)) (joined (map (λ t. t .name) ts))) (parts (map (λ t. length (t .postings)) ts) q)) postings-back
-        ∙ ap₂ (paired term) (names-back 0 (map (λ t. t .name) ts)) (parts-back (λ (t : Term). t .postings) ts)
+        (ap (λ (q : List Posting).
+        paired term (names 0 (ends-from 0 texts) (joined texts)) (parts (map (λ t. length (t .postings)) ts) q)) postings-back
+        ∙ ap₂ (paired term) (names-back 0 texts) (parts-back (λ (t : Term). t .postings) ts)
         ∙ paired-back (λ t. t .name) (λ t. t .postings) term (λ t. refl) ts) i;
   }

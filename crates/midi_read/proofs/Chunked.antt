@@ -1,6 +1,6 @@
 -- What stands before the events: numbers of two and four bytes, the high one first, and each way out of the two chunks.
 -- Assumes nothing.
-use mathlib.Core.Path.{_≡_, refl, sym, ap, _∙_}
+use mathlib.Core.Path.{_≡_, sym, ap, _∙_}
 use mathlib.Core.Bool.{Bool, true, false}
 use mathlib.Core.List.{List, [], _∷_}
 use Prim.Native.Nat.{ℕ, _+_, _-_, _*_, _/_, _%_, _≤_, _<_}
@@ -17,6 +17,7 @@ use Rattle.segment.specs.Refusals.{too-large, midi-file}
 use Rattle.segment.specs.Results.{Result, ok, refuse}
 use Rattle.segment.specs.Names.{same}
 use Rattle.segment.specs.Steps.{checked}
+use Rattle.segment.proofs.Accepted.{passed-ok, refused-is}
 use Rattle.midi_read.specs.declared.chunks.Chunks.{Chunks}
 use Rattle.midi_read.specs.declared.chunks.Chunks.the-variants as chunked
 use Rattle.midi_read.specs.Files.{big-endian, big-field, header-start, heading-start, division-fits, header, heading, chunks}
@@ -126,12 +127,10 @@ ticks-refused (ok u) e = let z : _≡_ {A = ℕ} 0 1 = cc in absurd (omega arith
 ticks-refused (refuse y) e = ap refuse cc
 
 pub checked-ok : {A : Type 0} (r : Result A) → checked r ≡ check.Passed → (a : A) × (r ≡ ok a)
-checked-ok (ok a) e = (a, refl)
-checked-ok (refuse x) e = let z : _≡_ {A = ℕ} 0 1 = cc in absurd (omega arith)
+checked-ok r e = passed-ok r (sym e)
 
 pub checked-refused : {A : Type 0} (r : Result A) {x : Refusal} → checked r ≡ check.Refused x → r ≡ refuse x
-checked-refused (ok a) e = let z : _≡_ {A = ℕ} 0 1 = cc in absurd (omega arith)
-checked-refused (refuse y) e = ap refuse cc
+checked-refused r e = refused-is r (sym e)
 
 module _ (steps quarter : ℕ) (file : List ℕ) where
   abbrev C : Chunks

@@ -4,7 +4,6 @@ use mathlib.Core.Path.{_≡_, refl, sym, ap, _∙_}
 use mathlib.Core.Bool.{Bool, true, false, cond}
 use mathlib.Core.List.{List, [], _∷_}
 use mathlib.Core.Option.{Option, none, some}
-use mathlib.Core.Logic.{inl, inr}
 use Prim.Native.Nat.{ℕ, zero, suc, _+_, _/_, _≤_, _<_}
 use native.Mathlib.Omega.{arith}
 use lib.Dec.{ltb, leb, eqb}
@@ -12,6 +11,7 @@ use lib.ListN.{length, getD}
 use borrow.Author.Tests.{ltb-true, leb-true}
 use Rattle.common.proofs.Loops.{and-right}
 use Rattle.common.specs.Elements.{_∈_}
+use Rattle.common.proofs.Elements.{each}
 use Rattle.segment.specs.Results.{ok, refuse, _>>=_, check}
 use Rattle.segment.proofs.Binds.{bind-gives, ok-same, refuse-ok}
 use Rattle.segment.proofs.Accepted.{check-gives}
@@ -169,10 +169,6 @@ never-fall-from : (a b : ℕ) (hs : List Hit) → a ≤ b → Never-fall b hs �
 never-fall-from a b [] l o = tt
 never-fall-from a b (h ∷ hs) l (u, o) = (omega arith, o)
 
-each-of : (P : Hit → Type 0) (h : Hit) (hs : List Hit) → P h → ((k : Hit) → k ∈ hs → P k) → (k : Hit) → k ∈ (h ∷ hs) → P k
-each-of P h hs p f k (inl e) = rw e p
-each-of P h hs p f k (inr m) = f k m
-
 from-fine : (n : ℕ) (g : Grid) (file : List ℕ) (from : Reader) (hs : List Hit) → hits-from n g file from ≡ ok hs
     → So-far g (from .tick) n hs
 unfolding hits-from
@@ -192,8 +188,8 @@ from-fine (suc n) g file from hs f =
         rw (sym is)
         (record {
           few = omega (arith, s .few);
-          audible = each-of Audible h ks a (s .audible);
-          near = each-of (λ k. bar-of g k ≤ 65535) h ks (leb-true _ _ near) (s .near);
+          audible = each Audible h ks a (s .audible);
+          near = each (λ k. bar-of g k ≤ 65535) h ks (leb-true _ _ near) (s .near);
           in-order = (omega (arith, m .never-falls, t), never-fall-from (h .tick) (next .tick) ks (omega (arith, t)) (s .in-order));
         })
     step (silent next) m k ih =
