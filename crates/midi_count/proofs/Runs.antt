@@ -89,7 +89,8 @@ div-up a b s h l = le-div-iff-mul-le {k = s} {x = a / s} {y = b} h .1 (omega (ar
 pub rising-append : (xs ys : List ℕ) → Rising xs → Rising ys → ((x y : ℕ) → x ∈ xs → y ∈ ys → x < y) → Rising (xs ++ ys)
 rising-append [] ys r s h = s
 rising-append (x ∷ xs) ys r s h =
-    rising-cons x (xs ++ ys) (λ y m. step y (append-gives xs ys y m)) (rising-append xs ys (rising-tail x xs r) s (λ a b m k. h a b (inr m) k))
+    rising-cons x (xs ++ ys) (λ y m. step y (append-gives xs ys y m))
+    (rising-append xs ys (rising-tail x xs r) s (λ a b m k. h a b (inr m) k))
   where
     step : (y : ℕ) → (y ∈ xs) ⊎ (y ∈ ys) → x < y
     step y (inl m) = rising-above x xs r y m
@@ -116,8 +117,8 @@ module _ {A B : Type 0} (f : A → List B) where
   parts-from (b ∷ zs) a y (inr m) k = append-right (f b) (joined (map f zs)) y (parts-from zs a y m k)
 
 -- each part within its own multiple
-pub parts-rise : (s : ℕ) → 1 ≤ s → (f : ℕ → List ℕ) → ((b : ℕ) → Rising (f b)) → ((b y : ℕ) → y ∈ f b → y / s ≡ b) → (bs : List ℕ) → Rising bs
-    → Rising (joined (map f bs))
+pub parts-rise : (s : ℕ) → 1 ≤ s → (f : ℕ → List ℕ) → ((b : ℕ) → Rising (f b)) → ((b y : ℕ) → y ∈ f b → y / s ≡ b)
+    → (bs : List ℕ) → Rising bs → Rising (joined (map f bs))
 parts-rise s h f r own [] up = tt
 parts-rise s h f r own (b ∷ bs) up =
     rising-append (f b) (joined (map f bs)) (r b) (parts-rise s h f r own bs (rising-tail b bs up)) (λ x y m k.

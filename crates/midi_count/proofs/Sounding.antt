@@ -70,22 +70,31 @@ bar-last-of steps x =
 pub opens-is : (steps last x : ℕ) → opens last x steps ≡ fresh (bar-last steps last) (x / steps)
 opens-is steps last x = step (eqb last 0) (eqb ((last - 1) / steps) (x / steps)) refl
   where
-    step : (a b : Bool) → eqb ((last - 1) / steps) (x / steps) ≡ b → cond a 1 (cond b 0 1) ≡ fresh (cond a 0 ((last - 1) / steps + 1)) (x / steps)
+    step : (a b : Bool) → eqb ((last - 1) / steps) (x / steps) ≡ b
+        → cond a 1 (cond b 0 1) ≡ fresh (cond a 0 ((last - 1) / steps + 1)) (x / steps)
     step true b e = rw (ne-eqb 0 (x / steps + 1) (λ e. omega arith))
     step false true e = rw (eq-eqb ((last - 1) / steps + 1) (x / steps + 1) (omega (arith, eqb-true ((last - 1) / steps) (x / steps) e)))
-    step false false e = rw (ne-eqb ((last - 1) / steps + 1) (x / steps + 1) (λ f. eqb-false ((last - 1) / steps) (x / steps) e (omega arith)))
+    step false false e =
+        rw (ne-eqb ((last - 1) / steps + 1) (x / steps + 1) (λ f. eqb-false ((last - 1) / steps) (x / steps) e (omega arith)))
 
 here-fresh : (l p : List ℕ) (i n x : ℕ) (xs : List ℕ) → i ≡ n → n < length l → n < length p
     → getD (set p i (getD p i 0 + fresh (getD l i 0) x)) n 0 + length (runs (getD (set l i (x + 1)) n 0) xs)
     ≡ getD p n 0 + length (runs (getD l n 0) (x ∷ xs))
 here-fresh l p i n x xs e h k =
-    rw (e, getD-set-same p n (getD p n 0 + fresh (getD l n 0) x) 0 k, getD-set-same l n (x + 1) 0 h) (omega (arith, fresh-run (getD l n 0) x xs))
+    rw (e, getD-set-same p n (getD p n 0 + fresh (getD l n 0) x) 0 k, getD-set-same l n (x + 1) 0 h)
+    (omega (arith, fresh-run (getD l n 0) x xs))
 
 here-opens : (steps : ℕ) (l p : List ℕ) (i n x : ℕ) (xs : List ℕ) → i ≡ n → n < length l → n < length p
     → getD (set p i (getD p i 0 + opens (getD l i 0) x steps)) n 0 + length (runs (bar-last steps (getD (set l i (x + 1)) n 0)) xs)
     ≡ getD p n 0 + length (runs (bar-last steps (getD l n 0)) (x / steps ∷ xs))
 here-opens steps l p i n x xs e h k =
-    rw (e, getD-set-same p n (getD p n 0 + opens (getD l n 0) x steps) 0 k, getD-set-same l n (x + 1) 0 h, bar-last-of steps x, opens-is steps (getD l n 0) x)
+    rw (
+      e,
+      getD-set-same p n (getD p n 0 + opens (getD l n 0) x steps) 0 k,
+      getD-set-same l n (x + 1) 0 h,
+      bar-last-of steps x,
+      opens-is steps (getD l n 0) x,
+    )
     (omega (arith, fresh-run (bar-last steps (getD l n 0)) (x / steps) xs))
 
 -- ---- one sound's counts
@@ -97,17 +106,24 @@ module _ (g : Grid) (n : ℕ) where
   unfolding kept
   positions-fold t [] h k = omega arith
   positions-fold t (x ∷ hs) h k =
+      let new = fresh (getD (t .last) (x .note) 0) (step-of g x) in
       positions-fold (tally g t x) hs (rw (length-set (t .last) (x .note) (step-of g x + 1)) h)
-      (rw (length-set (t .positions) (x .note) (getD (t .positions) (x .note) 0 + fresh (getD (t .last) (x .note) 0) (step-of g x))) k)
+      (rw (length-set (t .positions) (x .note) (getD (t .positions) (x .note) 0 + new)) k)
       ∙ step (eqb (x .note) n) refl
     where
       step : (b : Bool) → eqb (x .note) n ≡ b
-          → getD (tally g t x .positions) n 0 + length (runs (getD (tally g t x .last) n 0) (map (step-of g) (kept (of-sound n) hs)))
-          ≡ getD (t .positions) n 0 + length (runs (getD (t .last) n 0) (map (step-of g) (cond b (x ∷ kept (of-sound n) hs) (kept (of-sound n) hs))))
-      step true e = here-fresh (t .last) (t .positions) (x .note) n (step-of g x) (map (step-of g) (kept (of-sound n) hs)) (eqb-true _ _ e) h k
+          → let later = kept (of-sound n) hs in
+          getD (tally g t x .positions) n 0 + length (runs (getD (tally g t x .last) n 0) (map (step-of g) later))
+          ≡ getD (t .positions) n 0 + length (runs (getD (t .last) n 0) (map (step-of g) (cond b (x ∷ later) later)))
+      step true e =
+          here-fresh (t .last) (t .positions) (x .note) n (step-of g x) (map (step-of g) (kept (of-sound n) hs)) (eqb-true _ _ e) h k
       step false e =
           let apart : n ≡ x .note → ⊥ = λ f. eqb-false _ _ e (sym f) in
-          rw (getD-set-other (t .positions) (x .note) n (getD (t .positions) (x .note) 0 + fresh (getD (t .last) (x .note) 0) (step-of g x)) 0 apart, getD-set-other (t .last) (x .note) n (step-of g x + 1) 0 apart)
+          let new = fresh (getD (t .last) (x .note) 0) (step-of g x) in
+          rw (
+            getD-set-other (t .positions) (x .note) n (getD (t .positions) (x .note) 0 + new) 0 apart,
+            getD-set-other (t .last) (x .note) n (step-of g x + 1) 0 apart,
+          )
 
   postings-fold : (t : Tallies) (hs : List Hit) → n < length (t .last) → n < length (t .postings)
       → getD (over (tally g) t hs .postings) n 0
@@ -115,17 +131,25 @@ module _ (g : Grid) (n : ℕ) where
   unfolding kept
   postings-fold t [] h k = omega arith
   postings-fold t (x ∷ hs) h k =
+      let more = opens (getD (t .last) (x .note) 0) (step-of g x) (g .steps) in
       postings-fold (tally g t x) hs (rw (length-set (t .last) (x .note) (step-of g x + 1)) h)
-      (rw (length-set (t .postings) (x .note) (getD (t .postings) (x .note) 0 + opens (getD (t .last) (x .note) 0) (step-of g x) (g .steps))) k)
+      (rw (length-set (t .postings) (x .note) (getD (t .postings) (x .note) 0 + more)) k)
       ∙ step (eqb (x .note) n) refl
     where
       step : (b : Bool) → eqb (x .note) n ≡ b
-          → getD (tally g t x .postings) n 0 + length (runs (bar-last (g .steps) (getD (tally g t x .last) n 0)) (map (bar-of g) (kept (of-sound n) hs)))
-          ≡ getD (t .postings) n 0 + length (runs (bar-last (g .steps) (getD (t .last) n 0)) (map (bar-of g) (cond b (x ∷ kept (of-sound n) hs) (kept (of-sound n) hs))))
-      step true e = here-opens (g .steps) (t .last) (t .postings) (x .note) n (step-of g x) (map (bar-of g) (kept (of-sound n) hs)) (eqb-true _ _ e) h k
+          → let later = kept (of-sound n) hs in
+          getD (tally g t x .postings) n 0 + length (runs (bar-last (g .steps) (getD (tally g t x .last) n 0)) (map (bar-of g) later))
+          ≡ getD (t .postings) n 0 + length (runs (bar-last (g .steps) (getD (t .last) n 0)) (map (bar-of g) (cond b (x ∷ later) later)))
+      step true e =
+          here-opens (g .steps) (t .last) (t .postings) (x .note) n (step-of g x) (map (bar-of g) (kept (of-sound n) hs))
+          (eqb-true _ _ e) h k
       step false e =
           let apart : n ≡ x .note → ⊥ = λ f. eqb-false _ _ e (sym f) in
-          rw (getD-set-other (t .postings) (x .note) n (getD (t .postings) (x .note) 0 + opens (getD (t .last) (x .note) 0) (step-of g x) (g .steps)) 0 apart, getD-set-other (t .last) (x .note) n (step-of g x + 1) 0 apart)
+          let more = opens (getD (t .last) (x .note) 0) (step-of g x) (g .steps) in
+          rw (
+            getD-set-other (t .postings) (x .note) n (getD (t .postings) (x .note) 0 + more) 0 apart,
+            getD-set-other (t .last) (x .note) n (step-of g x + 1) 0 apart,
+          )
 
 -- ---- a sound's bars and steps never fall
 
@@ -160,7 +184,8 @@ module _ (g : Grid) (hs : List Hit) (some-ticks : 1 ≤ g .ticks) (a-step : 1 �
   pub bars-grow : Grows 0 (map (bar-of g) (kept (of-sound n) hs))
   bars-grow =
       grows-lower 0 (0 / g .ticks / g .steps) (map (bar-of g) (kept (of-sound n) hs)) (omega arith)
-      (hits-grow (λ t. t / g .ticks / g .steps) (λ a b l. div-up _ _ (g .steps) a-step (div-up a b (g .ticks) some-ticks l)) (of-sound n) 0 hs in-order)
+      (hits-grow (λ t. t / g .ticks / g .steps) (λ a b l. div-up _ _ (g .steps) a-step (div-up a b (g .ticks) some-ticks l))
+      (of-sound n) 0 hs in-order)
 
   struck-by : (h : Hit) → h ∈ kept (of-sound n) hs → Struck g hs n (bar-of g h) (position-of g h)
   struck-by h m =
@@ -202,8 +227,10 @@ module _ (g : Grid) (hs : List Hit) (some-ticks : 1 ≤ g .ticks) (a-step : 1 �
 
   pub parted : (b p : ℕ) → p < g .steps → ((b * g .steps + p) / g .steps ≡ b) × ((b * g .steps + p) % g .steps ≡ p)
   parted b p l =
-      let turned : b * g .steps + p ≡ p + b * g .steps = omega arith in
-      (rw (turned, add-mul-div-right p b {z = g .steps} a-step, div-eq-of-lt l) (omega arith), rw (turned, add-mul-mod-self-right p b (g .steps)) (mod-eq-of-lt l))
+      let turned : b * g .steps + p ≡ p + b * g .steps = omega arith in (
+        rw (turned, add-mul-div-right p b {z = g .steps} a-step, div-eq-of-lt l) (omega arith),
+        rw (turned, add-mul-mod-self-right p b (g .steps)) (mod-eq-of-lt l),
+      )
 
   pub step-in : (b x : ℕ) → x ∈ steps-of b → x / g .steps ≡ b
   step-in b x m =
@@ -228,7 +255,8 @@ module _ (g : Grid) (hs : List Hit) (some-ticks : 1 ≤ g .ticks) (a-step : 1 �
 
   step-of-struck : (b p : ℕ) (s : Struck g hs n b p) → b * g .steps + p ≡ step-of g (s .hit)
   step-of-struck b p s =
-      put-together (bar-of g (s .hit)) (position-of g (s .hit)) b p (g .steps) (step-of g (s .hit)) (s .in-bar) (s .on) (div-add-mod' (step-of g (s .hit)) (g .steps))
+      let h = s .hit in
+      put-together (bar-of g h) (position-of g h) b p (g .steps) (step-of g h) (s .in-bar) (s .on) (div-add-mod' (step-of g h) (g .steps))
 
   step-own : (x : ℕ) → x ∈ joined (map steps-of (bars-of g hs n)) → x ∈ map (step-of g) (kept (of-sound n) hs)
   step-own x m =
@@ -242,14 +270,16 @@ module _ (g : Grid) (hs : List Hit) (some-ticks : 1 ≤ g .ticks) (a-step : 1 �
   pub steps-run : runs 0 (map (step-of g) (kept (of-sound n) hs)) ≡ joined (map steps-of (bars-of g hs n))
   steps-run =
       runs-are (map (step-of g) (kept (of-sound n) hs)) (joined (map steps-of (bars-of g hs n))) steps-grow
-      (parts-rise (g .steps) a-step steps-of (λ b. shifted-rise (b * g .steps) (positions-of g hs n b) (positions-rising b)) step-in (bars-of g hs n) bars-rising)
+      (parts-rise (g .steps) a-step steps-of (λ b. shifted-rise (b * g .steps) (positions-of g hs n b) (positions-rising b)) step-in
+      (bars-of g hs n) bars-rising)
       step-from step-own
 
   steps-count : (bs : List ℕ) → total (map (λ b. length (steps-of b)) bs) ≡ total (map (λ b. length (positions-of g hs n b)) bs)
   steps-count [] = refl
   steps-count (b ∷ bs) = rw (length-map (positions-of g hs n b) (λ p. b * g .steps + p), steps-count bs)
 
-  pub steps-length : length (runs 0 (map (step-of g) (kept (of-sound n) hs))) ≡ total (map (λ b. length (positions-of g hs n b)) (bars-of g hs n))
+  pub steps-length : length (runs 0 (map (step-of g) (kept (of-sound n) hs)))
+      ≡ total (map (λ b. length (positions-of g hs n b)) (bars-of g hs n))
   steps-length = rw steps-run (sym (total-joined steps-of (bars-of g hs n)) ∙ steps-count (bars-of g hs n))
 
 pub zeros-length : (n : ℕ) → length (zeros n) ≡ n
@@ -260,9 +290,11 @@ pub counting-right : Counting-right
 counting-right g hs some-ticks fine in-order = record {
   bars = bars-are g (tallies 0 (zeros 128) (zeros 128) (zeros 128)) hs ∙ rw (greater-sum 0 (bar-count g hs)) (omega arith);
   postings = λ n h.
-      postings-fold g n (tallies 0 (zeros 128) (zeros 128) (zeros 128)) hs (omega (arith, zeros-length 128)) (omega (arith, zeros-length 128))
+      postings-fold g n (tallies 0 (zeros 128) (zeros 128) (zeros 128)) hs (omega (arith, zeros-length 128))
+      (omega (arith, zeros-length 128))
       ∙ rw (zeros-at 128 n) (zero-add _ ∙ ap length (bars-run g hs some-ticks (fine .a-step) in-order n));
   positions = λ n h.
-      positions-fold g n (tallies 0 (zeros 128) (zeros 128) (zeros 128)) hs (omega (arith, zeros-length 128)) (omega (arith, zeros-length 128))
+      positions-fold g n (tallies 0 (zeros 128) (zeros 128) (zeros 128)) hs (omega (arith, zeros-length 128))
+      (omega (arith, zeros-length 128))
       ∙ rw (zeros-at 128 n) (zero-add _ ∙ steps-length g hs some-ticks (fine .a-step) in-order n);
 }

@@ -7,13 +7,14 @@ use native.Mathlib.Omega.{arith}
 use lib.ListN.{length}
 use denote.Ref.{now}
 use borrow.Author.Needs.{needs}
+use Rattle.midi_read.specs.declared.track.Hit.{Hit}
+use Rattle.midi_read.specs.declared.track.Reader.{Reader}
 use Rattle.midi_read.specs.declared.track.Stepped.the-variants.{Sounds, Silent, Ends}
-use Rattle.midi_read.specs.Files.{read-event, first-event}
+use Rattle.midi_read.specs.Files.{grid, read-event, first-event}
 use Rattle.midi_read.specs.Promise.{event-answer, Within}
 use Rattle.midi_read.specs.Walks.{walk}
 use Rattle.midi_read.proofs.Walks.{past-hit, past-silent, walk-hit, walk-far, walk-silent, walk-end, walk-open, walk-refused}
 use Rattle.midi_count.specs.Tallies.{Tallies, tally}
-use Rattle.midi_read.specs.Files.{grid}
 use Rattle.midi_count.specs.Promise.{tallies, Low}
 use Rattle.midi_count.proofs.Tallying.{up-to, postings-low, positions-low, noted-state, near-step, stops, finishes}
 use Rattle.midi_count.proofs.count.count.Statement.{statement}
@@ -25,7 +26,8 @@ Inv-loop s ticks steps last₀ postings₀ positions₀ reader₀ bars₀ last p
     Within s reader
     × Low (reader .at) postings
     × Low (reader .at) positions
-    × (walk (tally g) g s reader (tallies bars last postings positions) ≡ walk (tally g) g s first-event (tallies 0 last₀ postings₀ positions₀))
+    × (walk (tally g) g s reader (tallies bars last postings positions)
+    ≡ walk (tally g) g s first-event (tallies 0 last₀ postings₀ positions₀))
 
 abbrev μ-loop : tie.MeasureT-loop
 μ-loop s ticks steps last₀ postings₀ positions₀ reader₀ bars₀ last postings positions reader bars = length s - reader .at
@@ -40,8 +42,14 @@ bytes l = now (start l .args .s)
 abbrev at-hit : tie.After-struct-known Inv-loop μ-loop → tie.At-loop Inv-loop μ-loop
 at-hit c = c .before .before .before .before .before
 
+abbrev hit : tie.After-struct-known Inv-loop μ-loop → Hit
+hit c = c .before .before .h .given .0 .0
+
+abbrev next : tie.After-struct-known Inv-loop μ-loop → Reader
+next c = c .before .before .h .given .0 .1 .0
+
 a-hit : (c : tie.After-struct-known Inv-loop μ-loop) → let l = at-hit c in
-    event-answer (read-event (bytes l) (l .loop .reader)) ≡ Sounds (c .before .before .h .given .0 .0) (c .before .before .h .given .0 .1 .0)
+    event-answer (read-event (bytes l) (l .loop .reader)) ≡ Sounds (hit c) (next c)
 a-hit c = sym (c .before .before .before .before .step .ensures) ∙ c .before .before .h .given .1
 
 a-silent : (c : tie.After-known-told2 Inv-loop μ-loop) → let l = c .before .before .before .before in
@@ -130,7 +138,7 @@ loop-again c =
       record { small = w .small; inside = m .inside; tick = omega (arith, m .on, m .rises, w .tick) },
       postings-low noted _ (omega (arith, m .on)) (l .loop .inv .1),
       positions-low noted _ (omega (arith, m .on)) (l .loop .inv .2),
-      ap (λ (t : Tallies). walk (tally g) g (bytes l) (h .before .before .h .given .0 .1 .0) t) (noted-state g (h .before .before .h .given .0 .0) (l .loop .bars) noted (c .greater-of .ensures))
+      ap (λ (t : Tallies). walk (tally g) g (bytes l) (next h) t) (noted-state g (hit h) (l .loop .bars) noted (c .greater-of .ensures))
           ∙ walk-hit (tally g) g (bytes l) (l .loop .reader) _ (l .loop .inv .3) (a-hit h) (omega arith),
     )
 
@@ -181,7 +189,8 @@ returns-4 : tie.Need-returns-4 Inv-loop μ-loop
 returns-4 c =
     let l = c .before .before .before .before in
     stops (grid (start l .args .ticks) (start l .args .steps)) (bytes l) _ _ _ _ _ _
-    (walk-refused _ _ (bytes l) (l .loop .reader) _ (l .loop .inv .3) (sym (c .before .before .before .step .ensures) ∙ c .before .x .given .1))
+    (walk-refused _ _ (bytes l) (l .loop .reader) _ (l .loop .inv .3)
+    (sym (c .before .before .before .step .ensures) ∙ c .before .x .given .1))
 
 pub count-spec : {M : Type 1} → statement M
 count-spec =

@@ -1,6 +1,6 @@
 -- The greater of two.
 -- Assumes nothing.
-use borrow.Author.Tests.{eq-eqb, ne-eqb, lt-ltb, le-ltb}
+use borrow.Author.Tests.{lt-ltb, le-ltb}
 use Rattle.midi_count.proofs.count.greater_of.Statement.{statement}
 use Rattle.midi_count.proofs.count.greater_of.Tie as tie
 

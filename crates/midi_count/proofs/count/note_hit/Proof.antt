@@ -1,10 +1,10 @@
 -- One place of each table.
 -- Assumes nothing.
 use mathlib.Core.Path.{refl, ap}
-use Prim.Native.Nat.{_+_}
 use native.Mathlib.Omega.{arith}
-use lib.ListN.{getD, set}
+use lib.ListN.{getD}
 use denote.Ref.{now}
+use Rattle.midi_count.specs.Tallies.{raised}
 use Rattle.midi_count.proofs.Tallying.{fresh-le, opens-le}
 use borrow.Author.Needs.{needs}
 use Rattle.midi_count.proofs.count.note_hit.Statement.{statement}
@@ -31,7 +31,12 @@ element-copy-out-postings c = search needs
 add-postings : tie.Need-add-postings
 add-postings c =
     let p = c .before .before .before .before in
-    omega (arith, p .pre .postings-low .holds (p .args .note), opens-le (getD (now (p .args .last)) (p .args .note) 0) (p .args .step) (p .args .steps), c .before .before .does-open .ensures)
+    omega (
+      arith,
+      p .pre .postings-low .holds (p .args .note),
+      opens-le (getD (now (p .args .last)) (p .args .note) 0) (p .args .step) (p .args .steps),
+      c .before .before .does-open .ensures,
+    )
 
 mul-postings-2 : tie.Need-mul-postings-2
 mul-postings-2 c = search needs
@@ -48,7 +53,12 @@ element-copy-out-positions c = search needs
 add-positions : tie.Need-add-positions
 add-positions c =
     let p = c .before .before .before .before .before in
-    omega (arith, p .pre .positions-low .holds (p .args .note), fresh-le (getD (now (p .args .last)) (p .args .note) 0) (p .args .step), c .before .before .is-fresh .ensures)
+    omega (
+      arith,
+      p .pre .positions-low .holds (p .args .note),
+      fresh-le (getD (now (p .args .last)) (p .args .note) 0) (p .args .step),
+      c .before .before .is-fresh .ensures,
+    )
 
 mul-positions-2 : tie.Need-mul-positions-2
 mul-positions-2 c = search needs
@@ -70,8 +80,8 @@ returns c =
     let p = c .before .before .before .before .before in
     record {
       last-left = refl;
-      postings-left = ap (λ x. set (now (p .args .postings)) (p .args .note) (getD (now (p .args .postings)) (p .args .note) 0 + x)) (c .before .before .before .does-open .ensures);
-      positions-left = ap (λ x. set (now (p .args .positions)) (p .args .note) (getD (now (p .args .positions)) (p .args .note) 0 + x)) (c .before .before .is-fresh .ensures);
+      postings-left = ap (raised (now (p .args .postings)) (p .args .note)) (c .before .before .before .does-open .ensures);
+      positions-left = ap (raised (now (p .args .positions)) (p .args .note)) (c .before .before .is-fresh .ensures);
     }
 
 pub note-hit-spec : {M : Type 1} → statement M
