@@ -33,7 +33,8 @@ use Rattle.midi_bars.proofs.Shaped.{flat-shape, ends-count}
 use Rattle.midi_bars.proofs.Ranges.{range-gives, range-from, range-length, range-rising, kept-rising}
 use Rattle.midi_bars.proofs.Named.{name-text, name-before}
 use Rattle.midi_bars.proofs.Counted.{sum, bit, cells, sum-le, sum-kept, sum-append, sum-map, kept-length, few-cells}
-use Rattle.midi_bars.proofs.Struck.{stands-for, bar-gives, bar-some, sounds-gives, position-from, bar-from}
+use Rattle.midi_bars.proofs.Struck.{stands-for, bar-some, sounds-gives, position-below, positions-rise, bars-rise, bar-struck}
+use Rattle.midi_bars.proofs.Struck.{position-from, bar-from}
 
 -- ---- pictures of lists that rise
 
@@ -62,29 +63,14 @@ module _ (g : Grid) (hs : List Hit) where
 module _ (g : Grid) (hs : List Hit) (fine : Hits-fine g hs) where
   -- ---- one posting
 
-  bar-struck : (n b : ℕ) → b ∈ bars-of g hs n → (p : ℕ) × Struck g hs n b p
-  unfolding bars-of
-  bar-struck n b m =
-      let (h, there, t) = some-gives (in-bar g n b) hs (kept-gives _ (rising-from 0 (bar-count g hs)) b m .1) in
-      let (e, f) = bar-gives g n b h t in
-      (position-of g h, record { hit = h; there = there; sound = e; in-bar = f; on = refl })
-
   bars-below : (n b : ℕ) → b ∈ bars-of g hs n → b < bar-count g hs
   unfolding bars-of
   bars-below n b m = omega (arith, range-gives 0 (bar-count g hs) b (kept-gives _ _ b m .0))
 
-  position-below : (n b p : ℕ) → p ∈ positions-of g hs n b → p < g .steps
-  unfolding positions-of
-  position-below n b p m = omega (arith, range-gives 0 (g .steps) p (kept-gives _ _ p m .0))
-
-  positions-rise : (n b : ℕ) → Rising (positions-of g hs n b)
-  unfolding positions-of
-  positions-rise n b = kept-rising _ 0 (g .steps)
-
   posting-fine : (n b : ℕ) → b ∈ bars-of g hs n → Posting-fine (given-of g hs .documents) (posting-of g hs n b)
   unfolding given-of
   posting-fine n b m =
-      let (p, s) = bar-struck n b m in
+      let (p, s) = bar-struck g hs n b m in
       record {
         of = document b (g .steps);
         known =
@@ -92,8 +78,8 @@ module _ (g : Grid) (hs : List Hit) (fine : Hits-fine g hs) where
             (range-from 0 (bar-count g hs) b (omega arith) (omega (arith, bars-below n b m)));
         same = refl;
         has-positions = in-some (positions-of g hs n b) p (position-from g hs (fine .a-step) n b p s);
-        rising = positions-rise n b;
-        inside = λ x k. position-below n b x k;
+        rising = positions-rise g hs n b;
+        inside = position-below g hs n b;
       }
 
   -- ---- one sound
@@ -104,9 +90,8 @@ module _ (g : Grid) (hs : List Hit) (fine : Hits-fine g hs) where
       let (h, there, t) = some-gives (of-sound n) hs (kept-gives _ (rising-from 0 128) n m .1) in
       (bar-of g h, position-of g h, record { hit = h; there = there; sound = eqb-true (h .note) n t; in-bar = refl; on = refl })
 
-  bars-rise : (n : ℕ) → Rising (map (λ p. p .doc) (map (posting-of g hs n) (bars-of g hs n)))
-  unfolding bars-of
-  bars-rise n = rw (map-ids (posting-of g hs n) (λ p. p .doc) (λ x. refl) (bars-of g hs n)) (kept-rising _ 0 (bar-count g hs))
+  docs-rise : (n : ℕ) → Rising (map (λ p. p .doc) (map (posting-of g hs n) (bars-of g hs n)))
+  docs-rise n = rw (map-ids (posting-of g hs n) (λ p. p .doc) (λ x. refl) (bars-of g hs n)) (bars-rise g hs n)
 
   term-fine : (n : ℕ) → n ∈ sounds-of g hs → Term-fine (given-of g hs .documents) (term-of g hs n)
   term-fine n m =
@@ -117,7 +102,7 @@ module _ (g : Grid) (hs : List Hit) (fine : Hits-fine g hs) where
         has-postings =
             in-some (map (posting-of g hs n) (bars-of g hs n)) (posting-of g hs n b)
             (map-from (posting-of g hs n) (bars-of g hs n) b (bar-from g hs (fine .a-step) n b p s));
-        rising = bars-rise n;
+        rising = docs-rise n;
         each = λ q k. let (b′, j, e) = map-gives (posting-of g hs n) (bars-of g hs n) q k in rw e (posting-fine n b′ j);
       }
 

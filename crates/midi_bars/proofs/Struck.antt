@@ -10,7 +10,7 @@ use native.Mathlib.Omega.{arith}
 use lib.Dec.{eqb, ltb}
 use borrow.Author.Tests.{eqb-true, eq-eqb, ltb-true, ltb-false}
 use Rattle.common.proofs.Loops.{and-left, and-right}
-use Rattle.common.specs.Elements.{_∈_}
+use Rattle.common.specs.Elements.{_∈_, Rising}
 use Rattle.segment.specs.Records.{Document, Term, Posting}
 use Rattle.segment.specs.Metadata.{document}
 use Rattle.common.proofs.Elements.{map-from}
@@ -22,7 +22,7 @@ use Rattle.midi_bars.specs.Bars.{rising-from, name-of, of-sound, in-bar,
 use Rattle.midi_bars.specs.Bars.{sounds-of, bars-of, positions-of, posting-of, term-of, given-of, lists-of}
 use Rattle.midi_bars.specs.Claims.{Struck, Listed, Hits-held, Stands-for}
 use Rattle.midi_bars.proofs.Unflat.{given-back}
-use Rattle.midi_bars.proofs.Ranges.{range-gives, range-from}
+use Rattle.midi_bars.proofs.Ranges.{range-gives, range-from, kept-rising}
 use Rattle.midi_bars.proofs.Named.{name-one}
 
 pub stands-for : Stands-for
@@ -38,7 +38,7 @@ module _ (g : Grid) where
   on-true : (n b p : ℕ) (h : Hit) → h .note ≡ n → bar-of g h ≡ b → position-of g h ≡ p → on-position g n b p h ≡ true
   on-true n b p h e f k = rw (eq-eqb (h .note) n e, eq-eqb (bar-of g h) b f, eq-eqb (position-of g h) p k)
 
-  pub bar-gives : (n b : ℕ) (h : Hit) → in-bar g n b h ≡ true → (h .note ≡ n) × (bar-of g h ≡ b)
+  bar-gives : (n b : ℕ) (h : Hit) → in-bar g n b h ≡ true → (h .note ≡ n) × (bar-of g h ≡ b)
   bar-gives n b h t =
       (eqb-true _ _ (and-left (of-sound n h) (eqb (bar-of g h) b) t), eqb-true _ _ (and-right (of-sound n h) (eqb (bar-of g h) b) t))
 
@@ -90,6 +90,25 @@ module _ (g : Grid) (hs : List Hit) where
       let (h, there, t) = some-gives (on-position g n b p) hs (kept-gives _ (rising-from 0 (g .steps)) p m .1) in
       let (e, f, k) = on-gives g n b p h t in
       record { hit = h; there = there; sound = e; in-bar = f; on = k }
+
+  pub position-below : (n b p : ℕ) → p ∈ positions-of g hs n b → p < g .steps
+  unfolding positions-of
+  position-below n b p m = omega (arith, range-gives 0 (g .steps) p (kept-gives _ _ p m .0))
+
+  pub positions-rise : (n b : ℕ) → Rising (positions-of g hs n b)
+  unfolding positions-of
+  positions-rise n b = kept-rising _ 0 (g .steps)
+
+  pub bars-rise : (n : ℕ) → Rising (bars-of g hs n)
+  unfolding bars-of
+  bars-rise n = kept-rising _ 0 (bar-count g hs)
+
+  pub bar-struck : (n b : ℕ) → b ∈ bars-of g hs n → (p : ℕ) × Struck g hs n b p
+  unfolding bars-of
+  bar-struck n b m =
+      let (h, there, t) = some-gives (in-bar g n b) hs (kept-gives _ (rising-from 0 (bar-count g hs)) b m .1) in
+      let (e, f) = bar-gives g n b h t in
+      (position-of g h, record { hit = h; there = there; sound = e; in-bar = f; on = refl })
 
   module _ (a-step : 1 ≤ g .steps) (n b p : ℕ) (s : Struck g hs n b p) where
     pub position-from : p ∈ positions-of g hs n b

@@ -34,10 +34,10 @@ use Rattle.midi_bars.proofs.Fine.{accepted, read-fine, text-few}
 
 -- ---- a step is a bar and a position
 
-step-is : (s x b p : ℕ) → x / s ≡ b → x % s ≡ p → x ≡ s * b + p
+pub step-is : (s x b p : ℕ) → x / s ≡ b → x % s ≡ p → x ≡ s * b + p
 step-is s x b p e f = sym (div-add-mod' x s) ∙ rw (e, f) (omega arith)
 
-parted : (s x b p : ℕ) → p < s → x ≡ s * b + p → (x / s ≡ b) × (x % s ≡ p)
+pub parted : (s x b p : ℕ) → p < s → x ≡ s * b + p → (x / s ≡ b) × (x % s ≡ p)
 parted s x b p l e =
     let turned : x ≡ p + b * s = omega arith in
     let some : 0 < s = omega arith in (

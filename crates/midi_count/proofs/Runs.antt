@@ -11,8 +11,8 @@ use lib.Dec.{eqb}
 use borrow.Author.Tests.{eqb-true, eqb-false}
 use Rattle.common.proofs.Loops.{lt-or-ge}
 use Rattle.common.specs.Elements.{_∈_, Rising}
-use Rattle.common.proofs.Elements.{append-left, append-right, rising-tail, rising-above}
-use Rattle.common.proofs.Membership.{append-gives}
+use Rattle.common.proofs.Elements.{map-from, rising-tail, rising-above}
+use Rattle.common.proofs.Membership.{append-gives, joined-gives, joined-from, map-gives}
 use Rattle.common.proofs.Rising.{rising-cons, rising-unique}
 use Rattle.common.specs.Lists.{joined}
 
@@ -103,18 +103,13 @@ shifted-rise k (x ∷ (y ∷ ys)) (up, r) = (omega arith, shifted-rise k (y ∷ 
 
 module _ {A B : Type 0} (f : A → List B) where
   pub parts-give : (zs : List A) (y : B) → y ∈ joined (map f zs) → (a : A) × (a ∈ zs) × (y ∈ f a)
-  parts-give [] y m = absurd m
-  parts-give (a ∷ zs) y m = step (append-gives (f a) (joined (map f zs)) y m) (parts-give zs y)
-    where
-      step : (y ∈ f a) ⊎ (y ∈ joined (map f zs)) → (y ∈ joined (map f zs) → (b : A) × (b ∈ zs) × (y ∈ f b))
-          → (b : A) × (b ∈ (a ∷ zs)) × (y ∈ f b)
-      step (inl m) later = (a, inl refl, m)
-      step (inr m) later = let (b, k, j) = later m in (b, inr k, j)
+  parts-give zs y m =
+      let (ys, k, j) = joined-gives (map f zs) y m in
+      let (a, i, e) = map-gives f zs ys k in
+      (a, i, rw e at j)
 
   pub parts-from : (zs : List A) (a : A) (y : B) → a ∈ zs → y ∈ f a → y ∈ joined (map f zs)
-  parts-from [] a y m k = absurd m
-  parts-from (b ∷ zs) a y (inl e) k = append-left (f b) (joined (map f zs)) y (rw e at k)
-  parts-from (b ∷ zs) a y (inr m) k = append-right (f b) (joined (map f zs)) y (parts-from zs a y m k)
+  parts-from zs a y m k = joined-from (map f zs) (f a) y (map-from f zs a m) k
 
 -- each part within its own multiple
 pub parts-rise : (s : ℕ) → 1 ≤ s → (f : ℕ → List ℕ) → ((b : ℕ) → Rising (f b)) → ((b y : ℕ) → y ∈ f b → y / s ≡ b)

@@ -5,29 +5,29 @@ use mathlib.Core.Bool.{Bool, true, false, cond}
 use mathlib.Core.List.{List, [], _∷_, map}
 use mathlib.Core.Logic.{inl, inr}
 use Prim.Native.Nat.{ℕ, zero, suc, _+_, _-_, _*_, _/_, _%_, _≤_, _<_}
-use native.Mathlib.Nat.{zero-add, div-add-mod', add-mul-div-right, add-mul-mod-self-right, div-eq-of-lt, mod-eq-of-lt}
+use native.Mathlib.Nat.{zero-add, div-add-mod'}
 use native.Mathlib.Omega.{arith}
 use lib.Dec.{eqb, ltb}
 use lib.ListN.{length, getD, set, length-set, length-map}
 use lib.Seq.{getD-set-same, getD-set-other}
 use borrow.Author.Tests.{eqb-true, eqb-false, eq-eqb, ne-eqb, ltb-true, ltb-false}
-use Rattle.common.specs.Elements.{_∈_, Rising}
+use Rattle.common.specs.Elements.{_∈_}
 use Rattle.common.proofs.Elements.{map-from}
 use Rattle.common.specs.Members.{kept}
-use Rattle.common.proofs.Membership.{some-gives, kept-gives, kept-from, map-gives}
+use Rattle.common.proofs.Membership.{kept-gives, kept-from, map-gives}
 use Rattle.common.specs.Lists.{total, joined}
 use Rattle.midi_read.specs.declared.track.Hit.{Hit}
 use Rattle.midi_read.specs.Files.{Grid, step-of, bar-of, position-of}
 use Rattle.midi_read.specs.Claims.{Never-fall}
 use Rattle.midi_read.specs.Walks.{over}
-use Rattle.midi_bars.specs.Bars.{rising-from, greater, of-sound, in-bar, bar-count, bars-of, positions-of}
+use Rattle.midi_bars.specs.Bars.{greater, of-sound, in-bar, bar-count, bars-of, positions-of}
 use Rattle.midi_bars.specs.Claims.{Struck}
 use Rattle.midi_count.specs.Tallies.{Tallies, fresh, opens, tally}
 use Rattle.midi_count.specs.Promise.{zeros, tallies}
 use Rattle.midi_count.specs.Claims.{Counting-right}
 use Rattle.midi_bars.proofs.Unflat.{total-joined}
-use Rattle.midi_bars.proofs.Ranges.{range-gives, kept-rising}
-use Rattle.midi_bars.proofs.Struck.{bar-gives, position-gives, position-from, bar-from}
+use Rattle.midi_bars.proofs.Struck.{position-below, positions-rise, bars-rise, bar-struck, position-gives, position-from, bar-from}
+use Rattle.midi_bars.proofs.Words.{parted, step-is}
 use Rattle.midi_count.proofs.Tallying.{zeros-at}
 use Rattle.midi_count.proofs.Runs.{runs, Grows, runs-are, div-up, shifted-rise, parts-give, parts-from, parts-rise}
 
@@ -168,9 +168,6 @@ hits-grow f mono t from (h ∷ hs) (at, up) = step (t h) (hits-grow f mono t (h 
     step true ih = (mono from (h .tick) at, ih)
     step false ih = grows-lower (f from) (f (h .tick)) (map (λ h. f (h .tick)) (kept t hs)) (mono from (h .tick) at) ih
 
-pub put-together : (q r b p s x : ℕ) → q ≡ b → r ≡ p → q * s + r ≡ x → b * s + p ≡ x
-put-together q r b p s x e f w = rw (← e, ← f) w
-
 back-again : (k s : ℕ) (xs : List ℕ) → ((x : ℕ) → x ∈ xs → (k + x) % s ≡ x) → map (λ x. x % s) (map (λ x. k + x) xs) ≡ xs
 back-again k s [] h = refl
 back-again k s (x ∷ xs) h = rw (h x (inl refl), back-again k s xs (λ y m. h y (inr m)))
@@ -195,29 +192,15 @@ module _ (g : Grid) (hs : List Hit) (some-ticks : 1 ≤ g .ticks) (a-step : 1 �
   struck-own : (b p : ℕ) (s : Struck g hs n b p) → s .hit ∈ kept (of-sound n) hs
   struck-own b p s = kept-from (of-sound n) hs (s .hit) (s .there) (eq-eqb _ _ (s .sound))
 
-  pub bars-rising : Rising (bars-of g hs n)
-  unfolding bars-of
-  bars-rising = kept-rising _ 0 (bar-count g hs)
-
-  pub positions-rising : (b : ℕ) → Rising (positions-of g hs n b)
-  unfolding positions-of
-  positions-rising b = kept-rising _ 0 (g .steps)
-
-  pub position-low : (b p : ℕ) → p ∈ positions-of g hs n b → p < g .steps
-  unfolding positions-of
-  position-low b p m = omega (arith, range-gives 0 (g .steps) p (kept-gives _ _ p m .0))
-
   bar-own : (b : ℕ) → b ∈ bars-of g hs n → b ∈ map (bar-of g) (kept (of-sound n) hs)
-  unfolding bars-of
   bar-own b m =
-      let (h, there, t) = some-gives (in-bar g n b) hs (kept-gives _ (rising-from 0 (bar-count g hs)) b m .1) in
-      let (e, f) = bar-gives g n b h t in
-      rw (← f) (map-from (bar-of g) (kept (of-sound n) hs) h (kept-from (of-sound n) hs h there (eq-eqb _ _ e)))
+      let (p, s) = bar-struck g hs n b m in
+      rw (← s .in-bar) (map-from (bar-of g) (kept (of-sound n) hs) (s .hit) (struck-own b p s))
 
   -- the bars of the definition
   pub bars-run : runs 0 (map (bar-of g) (kept (of-sound n) hs)) ≡ bars-of g hs n
   bars-run =
-      runs-are (map (bar-of g) (kept (of-sound n) hs)) (bars-of g hs n) bars-grow bars-rising (λ b m.
+      runs-are (map (bar-of g) (kept (of-sound n) hs)) (bars-of g hs n) bars-grow (bars-rise g hs n) (λ b m.
       let (h, k, e) = map-gives (bar-of g) (kept (of-sound n) hs) b m in
       rw e (bar-from g hs a-step n (bar-of g h) (position-of g h) (struck-by h k))) bar-own
 
@@ -225,20 +208,16 @@ module _ (g : Grid) (hs : List Hit) (some-ticks : 1 ≤ g .ticks) (a-step : 1 �
   abbrev pub steps-of : ℕ → List ℕ
   steps-of b = map (λ p. b * g .steps + p) (positions-of g hs n b)
 
-  pub parted : (b p : ℕ) → p < g .steps → ((b * g .steps + p) / g .steps ≡ b) × ((b * g .steps + p) % g .steps ≡ p)
-  parted b p l =
-      let turned : b * g .steps + p ≡ p + b * g .steps = omega arith in (
-        rw (turned, add-mul-div-right p b {z = g .steps} a-step, div-eq-of-lt l) (omega arith),
-        rw (turned, add-mul-mod-self-right p b (g .steps)) (mod-eq-of-lt l),
-      )
+  step-parted : (b p : ℕ) → p ∈ positions-of g hs n b → ((b * g .steps + p) / g .steps ≡ b) × ((b * g .steps + p) % g .steps ≡ p)
+  step-parted b p m = parted (g .steps) (b * g .steps + p) b p (position-below g hs n b p m) (omega arith)
 
   pub step-in : (b x : ℕ) → x ∈ steps-of b → x / g .steps ≡ b
   step-in b x m =
       let (p, k, e) = map-gives (λ p. b * g .steps + p) (positions-of g hs n b) x m in
-      rw e (parted b p (position-low b p k) .0)
+      rw e (step-parted b p k .0)
 
   pub step-on : (b : ℕ) → map (λ x. x % g .steps) (steps-of b) ≡ positions-of g hs n b
-  step-on b = back-again (b * g .steps) (g .steps) (positions-of g hs n b) (λ p m. parted b p (position-low b p m) .1)
+  step-on b = back-again (b * g .steps) (g .steps) (positions-of g hs n b) (λ p m. step-parted b p m .1)
 
   step-there : (h : Hit) → h ∈ kept (of-sound n) hs → step-of g h ∈ joined (map steps-of (bars-of g hs n))
   step-there h k =
@@ -254,9 +233,7 @@ module _ (g : Grid) (hs : List Hit) (some-ticks : 1 ≤ g .ticks) (a-step : 1 �
       subst (λ (y : ℕ). y ∈ joined (map steps-of (bars-of g hs n))) (sym e) (step-there h k)
 
   step-of-struck : (b p : ℕ) (s : Struck g hs n b p) → b * g .steps + p ≡ step-of g (s .hit)
-  step-of-struck b p s =
-      let h = s .hit in
-      put-together (bar-of g h) (position-of g h) b p (g .steps) (step-of g h) (s .in-bar) (s .on) (div-add-mod' (step-of g h) (g .steps))
+  step-of-struck b p s = omega (arith, step-is (g .steps) (step-of g (s .hit)) b p (s .in-bar) (s .on))
 
   step-own : (x : ℕ) → x ∈ joined (map steps-of (bars-of g hs n)) → x ∈ map (step-of g) (kept (of-sound n) hs)
   step-own x m =
@@ -270,8 +247,8 @@ module _ (g : Grid) (hs : List Hit) (some-ticks : 1 ≤ g .ticks) (a-step : 1 �
   pub steps-run : runs 0 (map (step-of g) (kept (of-sound n) hs)) ≡ joined (map steps-of (bars-of g hs n))
   steps-run =
       runs-are (map (step-of g) (kept (of-sound n) hs)) (joined (map steps-of (bars-of g hs n))) steps-grow
-      (parts-rise (g .steps) a-step steps-of (λ b. shifted-rise (b * g .steps) (positions-of g hs n b) (positions-rising b)) step-in
-      (bars-of g hs n) bars-rising)
+      (parts-rise (g .steps) a-step steps-of (λ b. shifted-rise (b * g .steps) (positions-of g hs n b) (positions-rise g hs n b)) step-in
+      (bars-of g hs n) (bars-rise g hs n))
       step-from step-own
 
   steps-count : (bs : List ℕ) → total (map (λ b. length (steps-of b)) bs) ≡ total (map (λ b. length (positions-of g hs n b)) bs)
