@@ -14,7 +14,7 @@ use Rattle.common.specs.Elements.{_∈_, Rising}
 use Rattle.segment.specs.Records.{Document, Term, Posting}
 use Rattle.segment.specs.Metadata.{document}
 use Rattle.common.proofs.Elements.{map-from}
-use Rattle.common.specs.Members.{some-of, kept}
+use Rattle.common.specs.Members.{some-of}
 use Rattle.common.proofs.Membership.{some-gives, some-from, kept-gives, kept-from, map-gives}
 use Rattle.midi_read.specs.declared.track.Hit.{Hit}
 use Rattle.midi_read.specs.Files.{Grid, bar-of, position-of, step-of}

@@ -20,7 +20,7 @@ use Rattle.midi_read.specs.declared.track.Hit.{Hit}
 use Rattle.midi_read.specs.Files.{Grid, step-of, bar-of, position-of}
 use Rattle.midi_read.specs.Claims.{Never-fall}
 use Rattle.midi_read.specs.Walks.{over}
-use Rattle.midi_bars.specs.Bars.{greater, of-sound, in-bar, bar-count, bars-of, positions-of}
+use Rattle.midi_bars.specs.Bars.{greater, of-sound, bar-count, bars-of, positions-of}
 use Rattle.midi_bars.specs.Claims.{Struck}
 use Rattle.midi_count.specs.Tallies.{Tallies, fresh, opens, tally}
 use Rattle.midi_count.specs.Promise.{zeros, tallies}
@@ -172,18 +172,9 @@ back-again : (k s : ℕ) (xs : List ℕ) → ((x : ℕ) → x ∈ xs → (k + x)
 back-again k s [] h = refl
 back-again k s (x ∷ xs) h = rw (h x (inl refl), back-again k s xs (λ y m. h y (inr m)))
 
-module _ (g : Grid) (hs : List Hit) (some-ticks : 1 ≤ g .ticks) (a-step : 1 ≤ g .steps) (in-order : Never-fall 0 hs) (n : ℕ) where
-  pub steps-grow : Grows 0 (map (step-of g) (kept (of-sound n) hs))
-  steps-grow =
-      grows-lower 0 (0 / g .ticks) (map (step-of g) (kept (of-sound n) hs)) (omega arith)
-      (hits-grow (λ t. t / g .ticks) (λ a b l. div-up a b (g .ticks) some-ticks l) (of-sound n) 0 hs in-order)
+-- ---- the hits of one sound
 
-  pub bars-grow : Grows 0 (map (bar-of g) (kept (of-sound n) hs))
-  bars-grow =
-      grows-lower 0 (0 / g .ticks / g .steps) (map (bar-of g) (kept (of-sound n) hs)) (omega arith)
-      (hits-grow (λ t. t / g .ticks / g .steps) (λ a b l. div-up _ _ (g .steps) a-step (div-up a b (g .ticks) some-ticks l))
-      (of-sound n) 0 hs in-order)
-
+module _ (g : Grid) (hs : List Hit) (n : ℕ) where
   struck-by : (h : Hit) → h ∈ kept (of-sound n) hs → Struck g hs n (bar-of g h) (position-of g h)
   struck-by h m =
       let (there, t) = kept-gives (of-sound n) hs h m in
@@ -196,13 +187,6 @@ module _ (g : Grid) (hs : List Hit) (some-ticks : 1 ≤ g .ticks) (a-step : 1 �
   bar-own b m =
       let (p, s) = bar-struck g hs n b m in
       rw (← s .in-bar) (map-from (bar-of g) (kept (of-sound n) hs) (s .hit) (struck-own b p s))
-
-  -- the bars of the definition
-  pub bars-run : runs 0 (map (bar-of g) (kept (of-sound n) hs)) ≡ bars-of g hs n
-  bars-run =
-      runs-are (map (bar-of g) (kept (of-sound n) hs)) (bars-of g hs n) bars-grow (bars-rise g hs n) (λ b m.
-      let (h, k, e) = map-gives (bar-of g) (kept (of-sound n) hs) b m in
-      rw e (bar-from g hs a-step n (bar-of g h) (position-of g h) (struck-by h k))) bar-own
 
   -- a bar's positions as steps
   abbrev pub steps-of : ℕ → List ℕ
@@ -219,19 +203,6 @@ module _ (g : Grid) (hs : List Hit) (some-ticks : 1 ≤ g .ticks) (a-step : 1 �
   pub step-on : (b : ℕ) → map (λ x. x % g .steps) (steps-of b) ≡ positions-of g hs n b
   step-on b = back-again (b * g .steps) (g .steps) (positions-of g hs n b) (λ p m. step-parted b p m .1)
 
-  step-there : (h : Hit) → h ∈ kept (of-sound n) hs → step-of g h ∈ joined (map steps-of (bars-of g hs n))
-  step-there h k =
-      let s = struck-by h k in
-      let whole : bar-of g h * g .steps + position-of g h ≡ step-of g h = div-add-mod' (step-of g h) (g .steps) in
-      parts-from steps-of (bars-of g hs n) (bar-of g h) (step-of g h) (bar-from g hs a-step n _ _ s)
-      (subst (λ (x : ℕ). x ∈ steps-of (bar-of g h)) whole
-      (map-from (λ p. bar-of g h * g .steps + p) (positions-of g hs n (bar-of g h)) (position-of g h) (position-from g hs a-step n _ _ s)))
-
-  step-from : (x : ℕ) → x ∈ map (step-of g) (kept (of-sound n) hs) → x ∈ joined (map steps-of (bars-of g hs n))
-  step-from x m =
-      let (h, k, e) = map-gives (step-of g) (kept (of-sound n) hs) x m in
-      subst (λ (y : ℕ). y ∈ joined (map steps-of (bars-of g hs n))) (sym e) (step-there h k)
-
   step-of-struck : (b p : ℕ) (s : Struck g hs n b p) → b * g .steps + p ≡ step-of g (s .hit)
   step-of-struck b p s = omega (arith, step-is (g .steps) (step-of g (s .hit)) b p (s .in-bar) (s .on))
 
@@ -243,21 +214,54 @@ module _ (g : Grid) (hs : List Hit) (some-ticks : 1 ≤ g .ticks) (a-step : 1 �
       subst (λ (y : ℕ). y ∈ map (step-of g) (kept (of-sound n) hs)) (sym (e ∙ step-of-struck b p s))
       (map-from (step-of g) (kept (of-sound n) hs) (s .hit) (struck-own b p s))
 
-  -- the steps of the definition
-  pub steps-run : runs 0 (map (step-of g) (kept (of-sound n) hs)) ≡ joined (map steps-of (bars-of g hs n))
-  steps-run =
-      runs-are (map (step-of g) (kept (of-sound n) hs)) (joined (map steps-of (bars-of g hs n))) steps-grow
-      (parts-rise (g .steps) a-step steps-of (λ b. shifted-rise (b * g .steps) (positions-of g hs n b) (positions-rise g hs n b)) step-in
-      (bars-of g hs n) (bars-rise g hs n))
-      step-from step-own
-
   steps-count : (bs : List ℕ) → total (map (λ b. length (steps-of b)) bs) ≡ total (map (λ b. length (positions-of g hs n b)) bs)
   steps-count [] = refl
   steps-count (b ∷ bs) = rw (length-map (positions-of g hs n b) (λ p. b * g .steps + p), steps-count bs)
 
-  pub steps-length : length (runs 0 (map (step-of g) (kept (of-sound n) hs)))
-      ≡ total (map (λ b. length (positions-of g hs n b)) (bars-of g hs n))
-  steps-length = rw steps-run (sym (total-joined steps-of (bars-of g hs n)) ∙ steps-count (bars-of g hs n))
+  module _ (some-ticks : 1 ≤ g .ticks) (a-step : 1 ≤ g .steps) (in-order : Never-fall 0 hs) where
+    pub steps-grow : Grows 0 (map (step-of g) (kept (of-sound n) hs))
+    steps-grow =
+        grows-lower 0 (0 / g .ticks) (map (step-of g) (kept (of-sound n) hs)) (omega arith)
+        (hits-grow (λ t. t / g .ticks) (λ a b l. div-up a b (g .ticks) some-ticks l) (of-sound n) 0 hs in-order)
+
+    pub bars-grow : Grows 0 (map (bar-of g) (kept (of-sound n) hs))
+    bars-grow =
+        grows-lower 0 (0 / g .ticks / g .steps) (map (bar-of g) (kept (of-sound n) hs)) (omega arith)
+        (hits-grow (λ t. t / g .ticks / g .steps) (λ a b l. div-up _ _ (g .steps) a-step (div-up a b (g .ticks) some-ticks l))
+        (of-sound n) 0 hs in-order)
+
+    -- the bars of the definition
+    pub bars-run : runs 0 (map (bar-of g) (kept (of-sound n) hs)) ≡ bars-of g hs n
+    bars-run =
+        runs-are (map (bar-of g) (kept (of-sound n) hs)) (bars-of g hs n) bars-grow (bars-rise g hs n) (λ b m.
+        let (h, k, e) = map-gives (bar-of g) (kept (of-sound n) hs) b m in
+        rw e (bar-from g hs a-step n (bar-of g h) (position-of g h) (struck-by h k))) bar-own
+
+    step-there : (h : Hit) → h ∈ kept (of-sound n) hs → step-of g h ∈ joined (map steps-of (bars-of g hs n))
+    step-there h k =
+        let s = struck-by h k in
+        let whole : bar-of g h * g .steps + position-of g h ≡ step-of g h = div-add-mod' (step-of g h) (g .steps) in
+        parts-from steps-of (bars-of g hs n) (bar-of g h) (step-of g h) (bar-from g hs a-step n _ _ s)
+        (subst (λ (x : ℕ). x ∈ steps-of (bar-of g h)) whole
+        (map-from (λ p. bar-of g h * g .steps + p) (positions-of g hs n (bar-of g h)) (position-of g h)
+        (position-from g hs a-step n _ _ s)))
+
+    step-from : (x : ℕ) → x ∈ map (step-of g) (kept (of-sound n) hs) → x ∈ joined (map steps-of (bars-of g hs n))
+    step-from x m =
+        let (h, k, e) = map-gives (step-of g) (kept (of-sound n) hs) x m in
+        subst (λ (y : ℕ). y ∈ joined (map steps-of (bars-of g hs n))) (sym e) (step-there h k)
+
+    -- the steps of the definition
+    pub steps-run : runs 0 (map (step-of g) (kept (of-sound n) hs)) ≡ joined (map steps-of (bars-of g hs n))
+    steps-run =
+        runs-are (map (step-of g) (kept (of-sound n) hs)) (joined (map steps-of (bars-of g hs n))) steps-grow
+        (parts-rise (g .steps) a-step steps-of (λ b. shifted-rise (b * g .steps) (positions-of g hs n b) (positions-rise g hs n b))
+        step-in (bars-of g hs n) (bars-rise g hs n))
+        step-from step-own
+
+    pub steps-length : length (runs 0 (map (step-of g) (kept (of-sound n) hs)))
+        ≡ total (map (λ b. length (positions-of g hs n b)) (bars-of g hs n))
+    steps-length = rw steps-run (sym (total-joined steps-of (bars-of g hs n)) ∙ steps-count (bars-of g hs n))
 
 pub zeros-length : (n : ℕ) → length (zeros n) ≡ n
 zeros-length zero = refl
@@ -269,9 +273,9 @@ counting-right g hs some-ticks fine in-order = record {
   postings = λ n h.
       postings-fold g n (tallies 0 (zeros 128) (zeros 128) (zeros 128)) hs (omega (arith, zeros-length 128))
       (omega (arith, zeros-length 128))
-      ∙ rw (zeros-at 128 n) (zero-add _ ∙ ap length (bars-run g hs some-ticks (fine .a-step) in-order n));
+      ∙ rw (zeros-at 128 n) (zero-add _ ∙ ap length (bars-run g hs n some-ticks (fine .a-step) in-order));
   positions = λ n h.
       positions-fold g n (tallies 0 (zeros 128) (zeros 128) (zeros 128)) hs (omega (arith, zeros-length 128))
       (omega (arith, zeros-length 128))
-      ∙ rw (zeros-at 128 n) (zero-add _ ∙ steps-length g hs some-ticks (fine .a-step) in-order n);
+      ∙ rw (zeros-at 128 n) (zero-add _ ∙ steps-length g hs n some-ticks (fine .a-step) in-order);
 }
