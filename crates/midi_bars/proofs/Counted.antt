@@ -1,8 +1,8 @@
 -- There are no more positions than hits.
 -- Assumes nothing.
-use mathlib.Core.Path.{_≡_, refl, sym}
+use mathlib.Core.Path.{_≡_, refl, sym, ap}
 use mathlib.Core.Bool.{Bool, true, false, cond, _&&_, _||_}
-use mathlib.Core.List.{List, [], _∷_, _++_, map}
+use mathlib.Core.List.{List, [], _∷_, _++_, map, map-map}
 use Prim.Native.Nat.{ℕ, zero, suc, _+_, _≤_, _<_}
 use native.Mathlib.Omega.{arith}
 use lib.Dec.{eqb}
@@ -60,8 +60,7 @@ module _ {A : Type 0} (f : A → ℕ) where
   sum-append (x ∷ xs) ys = omega (arith, sum-append xs ys)
 
   pub sum-map : {B : Type 0} (k : B → A) (xs : List B) → sum f (map k xs) ≡ sum (λ x. f (k x)) xs
-  sum-map k [] = refl
-  sum-map k (x ∷ xs) = rw (sum-map k xs)
+  sum-map k xs = ap total (map-map f k xs)
 
 -- a sum of which one number at most has a part
 past : (f : ℕ → ℕ) (x a n : ℕ) → x < a → ((y : ℕ) → (y ≡ x → ⊥) → f y ≡ 0) → sum f (rising-from a n) ≡ 0

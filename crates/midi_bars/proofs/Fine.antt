@@ -1,7 +1,7 @@
 -- The writer, given room, accepts the lists of a file's hits.
 -- Assumes nothing.
 use mathlib.Core.Path.{_≡_, refl, ap, _∙_}
-use mathlib.Core.List.{List, [], _∷_, map}
+use mathlib.Core.List.{List, [], _∷_, map, map-map, map-id}
 use mathlib.Core.Logic.{_⊎_, inl, inr}
 use Prim.Native.Nat.{ℕ, _*_, _≤_, _<_}
 use native.Mathlib.Omega.{arith}
@@ -18,7 +18,7 @@ use Rattle.segment.proofs.Accepted.{check-gives}
 use Rattle.common.proofs.Elements.{map-from}
 use Rattle.common.specs.Members.{some-of}
 use Rattle.common.proofs.Membership.{some-gives, kept-gives, map-gives, in-some, joined-gives}
-use Rattle.common.proofs.Kept.{kept-fewer}
+use Rattle.common.proofs.Kept.{kept-fewer, map-same}
 use Rattle.calls.specs.Given.{laid-flat}
 use Rattle.common.specs.Lists.{joined}
 use Rattle.calls.specs.Acceptance.{Names-rising, Posting-fine, Term-fine, Small, Shape}
@@ -39,8 +39,7 @@ use Rattle.midi_bars.proofs.Struck.{position-from, bar-from}
 -- ---- pictures of lists that rise
 
 map-ids : {A : Type 0} (f : ℕ → A) (id : A → ℕ) → ((x : ℕ) → id (f x) ≡ x) → (xs : List ℕ) → map id (map f xs) ≡ xs
-map-ids f id e [] = refl
-map-ids f id e (x ∷ xs) = rw (e x, map-ids f id e xs)
+map-ids f id e xs = map-map id f xs ∙ map-same (λ x. id (f x)) (λ x. x) xs (λ x m. e x) ∙ map-id xs
 
 names-rise : (f : ℕ → Term) → ((n : ℕ) → f n .name ≡ name-of n) → (ns : List ℕ) → Rising ns → Names-rising (map (λ t. t .name) (map f ns))
 names-rise f e [] r = tt

@@ -2,8 +2,7 @@
 -- Assumes nothing.
 use mathlib.Core.Path.{_≡_, refl, sym, ap, subst, _∙_}
 use mathlib.Core.Bool.{Bool, true, false, cond}
-use mathlib.Core.List.{List, [], _∷_, map}
-use mathlib.Core.Logic.{inl, inr}
+use mathlib.Core.List.{List, [], _∷_, map, map-map, map-id}
 use Prim.Native.Nat.{ℕ, zero, suc, _+_, _-_, _*_, _/_, _%_, _≤_, _<_}
 use native.Mathlib.Nat.{zero-add, div-add-mod'}
 use native.Mathlib.Omega.{arith}
@@ -14,6 +13,7 @@ use borrow.Author.Tests.{eqb-true, eqb-false, eq-eqb, ne-eqb, ltb-true, ltb-fals
 use Rattle.common.specs.Elements.{_∈_}
 use Rattle.common.proofs.Elements.{map-from}
 use Rattle.common.specs.Members.{kept}
+use Rattle.common.proofs.Kept.{map-same}
 use Rattle.common.proofs.Membership.{kept-gives, kept-from, map-gives}
 use Rattle.common.specs.Lists.{total, joined}
 use Rattle.midi_read.specs.declared.track.Hit.{Hit}
@@ -169,8 +169,7 @@ hits-grow f mono t from (h ∷ hs) (at, up) = step (t h) (hits-grow f mono t (h 
     step false ih = grows-lower (f from) (f (h .tick)) (map (λ h. f (h .tick)) (kept t hs)) (mono from (h .tick) at) ih
 
 back-again : (k s : ℕ) (xs : List ℕ) → ((x : ℕ) → x ∈ xs → (k + x) % s ≡ x) → map (λ x. x % s) (map (λ x. k + x) xs) ≡ xs
-back-again k s [] h = refl
-back-again k s (x ∷ xs) h = rw (h x (inl refl), back-again k s xs (λ y m. h y (inr m)))
+back-again k s xs h = map-map (λ x. x % s) (λ x. k + x) xs ∙ map-same (λ x. (k + x) % s) (λ x. x) xs h ∙ map-id xs
 
 -- ---- the hits of one sound
 

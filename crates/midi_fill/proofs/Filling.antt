@@ -2,17 +2,17 @@
 -- counted before, so that a sound's count so far, with the new one, is at most its total, and the hit's place lies in the sound's part.
 -- Assumes nothing.
 use mathlib.Core.Path.{_≡_, refl, sym, ap, subst, _∙_}
-use mathlib.Core.Bool.{Bool, true, false, cond}
+use mathlib.Core.Bool.{Bool, true, false}
 use mathlib.Core.List.{List, [], _∷_}
 use mathlib.Core.Logic.{_⊎_, inl, inr}
-use Prim.Native.Nat.{ℕ, zero, suc, _+_, _-_, _*_, _/_, _≤_, _<_}
+use Prim.Native.Nat.{ℕ, zero, suc, _+_, _≤_, _<_}
 use native.Mathlib.Omega.{arith}
 use lib.Dec.{eqb}
 use lib.ListN.{length, getD, set, length-set}
 use lib.Seq.{getD-set-same, getD-set-other}
 use borrow.Author.Tests.{eqb-true, eqb-false, eq-eqb, ne-eqb}
 use Rattle.segment.specs.declared.refusal.Refusal.{Refusal}
-use Rattle.segment.specs.Results.{Result, ok, refuse}
+use Rattle.segment.specs.Results.{Result, ok}
 use Rattle.segment.proofs.Binds.{bind-gives, ok-same}
 use Rattle.midi_read.specs.declared.track.Hit.{Hit}
 use Rattle.midi_read.specs.declared.track.Reader.{Reader}
@@ -120,7 +120,8 @@ standing-start file ticks steps starts marks x f = record {
   rest = refl;
 }
 
-module _ (file : List ℕ) (g : Grid) (starts marks : List ℕ) (x₀ x : Buffers) (from : Reader) (w : Standing file g starts marks x₀ x from) where
+module _ (file : List ℕ) (g : Grid) (starts marks : List ℕ) (x₀ x : Buffers) (from : Reader)
+    (w : Standing file g starts marks x₀ x from) where
   pub standing-silent : {next : Reader} → event-answer (read-event file from) ≡ Silent next → Standing file g starts marks x₀ x next
   standing-silent e =
       let m = past-silent file from e in
@@ -148,22 +149,26 @@ module _ (file : List ℕ) (g : Grid) (starts marks : List ℕ) (x₀ x : Buffer
 
   -- the ways out
 
+  abbrev whole : Result Buffers
+  whole = walk (put g starts marks) g file first-event x₀
+
   pub filled-far : {h : Hit} {next : Reader} → event-answer (read-event file from) ≡ Sounds h next → 65535 < bar-of g h
-      → Filled-so (walk (put g starts marks) g file first-event x₀) x
+      → Filled-so whole x
   filled-far e far = subst (λ (r : Result Buffers). Filled-so r x) (walk-far (put g starts marks) g file from x (w .rest) e far) tt
 
-  pub filled-refused : {r : Refusal} → event-answer (read-event file from) ≡ Refused r
-      → Filled-so (walk (put g starts marks) g file first-event x₀) x
+  pub filled-refused : {r : Refusal} → event-answer (read-event file from) ≡ Refused r → Filled-so whole x
   filled-refused e = subst (λ (r : Result Buffers). Filled-so r x) (walk-refused (put g starts marks) g file from x (w .rest) e) tt
 
-  pub filled-end : {past : ℕ} → event-answer (read-event file from) ≡ Ends past → Filled-so (walk (put g starts marks) g file first-event x₀) x
+  pub filled-end : {past : ℕ} → event-answer (read-event file from) ≡ Ends past → Filled-so whole x
   filled-end {past} e = step (eqb past (length file)) refl
     where
-      step : (b : Bool) → eqb past (length file) ≡ b → Filled-so (walk (put g starts marks) g file first-event x₀) x
+      step : (b : Bool) → eqb past (length file) ≡ b → Filled-so whole x
       step true t =
-          subst (λ (r : Result Buffers). Filled-so r x) (walk-end (put g starts marks) g file from x (w .rest) e (eqb-true past (length file) t)) refl
+          subst (λ (r : Result Buffers). Filled-so r x)
+          (walk-end (put g starts marks) g file from x (w .rest) e (eqb-true past (length file) t)) refl
       step false t =
-          subst (λ (r : Result Buffers). Filled-so r x) (walk-open (put g starts marks) g file from x (w .rest) e (eqb-false past (length file) t)) tt
+          subst (λ (r : Result Buffers). Filled-so r x)
+          (walk-open (put g starts marks) g file from x (w .rest) e (eqb-false past (length file) t)) tt
 
   module _ {h : Hit} {next : Reader} (e : event-answer (read-event file from) ≡ Sounds h next) (near : bar-of g h ≤ 65535) where
     abbrev n : ℕ
@@ -195,21 +200,17 @@ module _ (file : List ℕ) (g : Grid) (starts marks : List ℕ) (x₀ x : Buffer
         step (inl z) = rw (ne-eqb (getD (x .last) n 0) (step-of g h + 1) (λ is. omega (arith, z, is))) (omega arith)
         step (inr (p, q)) = omega arith
 
+    postings-here : getD (raised (x .postings) n more) n 0 ≡ getD (x .postings) n 0 + more
+    postings-here = getD-set-same (x .postings) n (getD (x .postings) n 0 + more) 0 (omega (arith, known, w .postings-long))
+
+    positions-here : getD (raised (x .positions) n new) n 0 ≡ getD (x .positions) n 0 + new
+    positions-here = getD-set-same (x .positions) n (getD (x .positions) n 0 + new) 0 (omega (arith, known, w .positions-long))
+
     posting-in : getD (x .postings) n 0 + more ≤ getD (w .total .postings) n 0
-    posting-in =
-        omega (
-          arith,
-          postings-within g file next _ (w .total) counted-on n,
-          getD-set-same (x .postings) n (getD (x .postings) n 0 + more) 0 (omega (arith, known, w .postings-long)),
-        )
+    posting-in = omega (arith, postings-within g file next _ (w .total) counted-on n, postings-here)
 
     position-in : getD (x .positions) n 0 + new ≤ getD (w .total .positions) n 0
-    position-in =
-        omega (
-          arith,
-          positions-within g file next _ (w .total) counted-on n,
-          getD-set-same (x .positions) n (getD (x .positions) n 0 + new) 0 (omega (arith, known, w .positions-long)),
-        )
+    position-in = omega (arith, positions-within g file next _ (w .total) counted-on n, positions-here)
 
     pub puttable : 1 ≤ g .steps → g .steps ≤ 64 → Puttable starts marks n (step-of g h) (bar-of g h) (g .steps) x
     puttable s few =
@@ -221,7 +222,7 @@ module _ (file : List ℕ) (g : Grid) (starts marks : List ℕ) (x₀ x : Buffer
           postings-low = up-to _ (w .postings-low) (omega arith);
           positions-low = up-to _ (w .positions-low) (omega arith);
           inside-low = up-to _ (w .inside-low) (omega arith);
-            starts-low = w .starts-low;
+          starts-low = w .starts-low;
           marks-low = w .marks-low;
           a-posting = one-posting;
           a-position = one-position;
@@ -230,16 +231,16 @@ module _ (file : List ℕ) (g : Grid) (starts marks : List ℕ) (x₀ x : Buffer
           steps-fit = omega (arith, position-in, w .steps-fit n known);
         }
 
-    begun-next : (k : ℕ) → Begun (set (x .last) n (step-of g h + 1)) (raised (x .postings) n more) (raised (x .positions) n new) k
+    abbrev Begun-on : ℕ → Type 0
+    Begun-on k = Begun (set (x .last) n (step-of g h + 1)) (raised (x .postings) n more) (raised (x .positions) n new) k
+
+    begun-next : (k : ℕ) → Begun-on k
     begun-next k = step (eqb k n) refl
       where
-        step : (b : Bool) → eqb k n ≡ b → Begun (set (x .last) n (step-of g h + 1)) (raised (x .postings) n more) (raised (x .positions) n new) k
+        step : (b : Bool) → eqb k n ≡ b → Begun-on k
         step true t =
             let is : k ≡ n = eqb-true k n t in
-            inr (
-              rw is (omega (arith, one-posting, getD-set-same (x .postings) n (getD (x .postings) n 0 + more) 0 (omega (arith, known, w .postings-long)))),
-              rw is (omega (arith, one-position, getD-set-same (x .positions) n (getD (x .positions) n 0 + new) 0 (omega (arith, known, w .positions-long)))),
-            )
+            inr (rw is (omega (arith, one-posting, postings-here)), rw is (omega (arith, one-position, positions-here)))
         step false t =
             let apart = eqb-false k n t in
             rw (
@@ -265,8 +266,12 @@ module _ (file : List ℕ) (g : Grid) (starts marks : List ℕ) (x₀ x : Buffer
         let m = past-hit file from e .0 in
         record {
           within = record { small = w .within .small; inside = m .inside; tick = omega (arith, m .on, m .rises, w .within .tick) };
-          postings-low = raised-low (x .postings) n more _ _ (w .postings-low) (opens-le (getD (x .last) n 0) (step-of g h) (g .steps)) (omega (arith, m .on));
-          positions-low = raised-low (x .positions) n new _ _ (w .positions-low) (fresh-le (getD (x .last) n 0) (step-of g h)) (omega (arith, m .on));
+          postings-low =
+              raised-low (x .postings) n more _ _ (w .postings-low) (opens-le (getD (x .last) n 0) (step-of g h) (g .steps))
+              (omega (arith, m .on));
+          positions-low =
+              raised-low (x .positions) n new _ _ (w .positions-low) (fresh-le (getD (x .last) n 0) (step-of g h))
+              (omega (arith, m .on));
           inside-low = inside-next _ (omega (arith, m .on));
           starts-low = w .starts-low;
           marks-low = w .marks-low;

@@ -64,13 +64,29 @@ module _ (starts marks : List ℕ) (i step steps : ℕ) (x : Buffers) where
     inside = length-set (x .inside) i _ ∙ w .inside;
   }
 
+  abbrev more : ℕ
+  more = opens (getD (x .last) i 0) step steps
+
+  abbrev new : ℕ
+  new = fresh (getD (x .last) i 0) step
+
   tables-here : Long x → i < 128 → tables i (stored starts marks i step steps x) ≡ hit-one steps step (tables i x)
   tables-here w h =
-      rw (getD-set-same (x .last) i (step + 1) 0 (omega (arith, w .last)), getD-set-same (x .postings) i (getD (x .postings) i 0 + opens (getD (x .last) i 0) step steps) 0 (omega (arith, w .postings)), getD-set-same (x .positions) i (getD (x .positions) i 0 + fresh (getD (x .last) i 0) step) 0 (omega (arith, w .positions)), getD-set-same (x .inside) i (in-last (opens (getD (x .last) i 0) step steps) (fresh (getD (x .last) i 0) step) (getD (x .inside) i 0)) 0 (omega (arith, w .inside)))
+      rw (
+        getD-set-same (x .last) i (step + 1) 0 (omega (arith, w .last)),
+        getD-set-same (x .postings) i (getD (x .postings) i 0 + more) 0 (omega (arith, w .postings)),
+        getD-set-same (x .positions) i (getD (x .positions) i 0 + new) 0 (omega (arith, w .positions)),
+        getD-set-same (x .inside) i (in-last more new (getD (x .inside) i 0)) 0 (omega (arith, w .inside)),
+      )
 
   tables-there : (n : ℕ) → (n ≡ i → ⊥) → tables n (stored starts marks i step steps x) ≡ tables n x
   tables-there n k =
-      rw (getD-set-other (x .last) i n (step + 1) 0 k, getD-set-other (x .postings) i n (getD (x .postings) i 0 + opens (getD (x .last) i 0) step steps) 0 k, getD-set-other (x .positions) i n (getD (x .positions) i 0 + fresh (getD (x .last) i 0) step) 0 k, getD-set-other (x .inside) i n (in-last (opens (getD (x .last) i 0) step steps) (fresh (getD (x .last) i 0) step) (getD (x .inside) i 0)) 0 k)
+      rw (
+        getD-set-other (x .last) i n (step + 1) 0 k,
+        getD-set-other (x .postings) i n (getD (x .postings) i 0 + more) 0 k,
+        getD-set-other (x .positions) i n (getD (x .positions) i 0 + new) 0 k,
+        getD-set-other (x .inside) i n (in-last more new (getD (x .inside) i 0)) 0 k,
+      )
 
 -- ---- parts
 
@@ -94,8 +110,24 @@ pub kept-not : {A : Type 0} (f : A → Bool) (x : A) (xs : List A) → f x ≡ f
 unfolding kept
 kept-not f x xs e = rw e
 
--- what one sound's hits store: at the place before the count `idx`, the value `val`
-module _ (g : Grid) (idx : One → ℕ) (val : Hit → One → ℕ) where
+-- how one of the lists is filled: behind which place (the count after the hit), with what, and the key that decides whether the place is
+-- a new one; `held` is the last key plus one, 0 where there is none
+pub record Kind (g : Grid) : Type 0 where
+  pub idx : One → ℕ
+  pub val : Hit → One → ℕ
+  pub key : Hit → ℕ
+  pub held : One → ℕ
+  pub counts : (s : One) (h : Hit) → idx (one g s h) ≡ idx s + fresh (held s) (key h)
+  pub holds : (s : One) (h : Hit) → held (one g s h) ≡ key h + 1
+
+module _ (g : Grid) (kind : Kind g) where
+  abbrev idx : One → ℕ
+  idx = kind .idx
+
+  abbrev val : Hit → One → ℕ
+  val = kind .val
+
+  -- what one sound's hits store
   abbrev pub writes : One → List ℕ → List Hit → List ℕ
   writes s l [] = l
   writes s l (h ∷ hs) = writes (one g s h) (set l (idx (one g s h) - 1) (val h (one g s h))) hs
@@ -112,24 +144,34 @@ module _ (g : Grid) (idx : One → ℕ) (val : Hit → One → ℕ) where
     same-length x [] = refl
     same-length x (h ∷ hs) = same-length (put g starts marks x h) hs ∙ ap length (law x h) ∙ length-set (list x) _ _
 
+    -- where a sound's part begins, and the sound's places of the tables after a hit
+    abbrev from : ℕ → ℕ
+    from n = getD base n 0
+
+    abbrev next : ℕ → Buffers → Hit → One
+    next n x h = one g (tables n x) h
+
     module _ (c : ℕ → ℕ)
-        (apart : (m n : ℕ) → m < 128 → n < 128 → (m ≡ n → ⊥) → (getD base m 0 + c m ≤ getD base n 0) ⊎ (getD base n 0 + c n ≤ getD base m 0)) where
-      part-here : (x : Buffers) (h : Hit) (n : ℕ) → h .note ≡ n → 1 ≤ idx (one g (tables n x) h) → idx (one g (tables n x) h) ≤ c n
-          → take (c n) (drop (getD base n 0) (list (put g starts marks x h)))
-          ≡ set (take (c n) (drop (getD base n 0) (list x))) (idx (one g (tables n x) h) - 1) (val h (one g (tables n x) h))
+        (apart : (m n : ℕ) → m < 128 → n < 128 → (m ≡ n → ⊥) → (from m + c m ≤ from n) ⊎ (from n + c n ≤ from m)) where
+      abbrev part : ℕ → Buffers → List ℕ
+      part n x = take (c n) (drop (from n) (list x))
+
+      part-here : (x : Buffers) (h : Hit) (n : ℕ) → h .note ≡ n → 1 ≤ idx (next n x h) → idx (next n x h) ≤ c n
+          → part n (put g starts marks x h) ≡ set (part n x) (idx (next n x h) - 1) (val h (next n x h))
       part-here x h n e some few =
-          subst (λ (m : ℕ). 1 ≤ idx (one g (tables m x) h) → idx (one g (tables m x) h) ≤ c m → take (c m) (drop (getD base m 0) (list (put g starts marks x h)))
-          ≡ set (take (c m) (drop (getD base m 0) (list x))) (idx (one g (tables m x) h) - 1) (val h (one g (tables m x) h))) e (λ some few.
-          let at : getD base (h .note) 0 + idx (one g (tables (h .note) x) h) - 1 ≡ getD base (h .note) 0 + (idx (one g (tables (h .note) x) h) - 1) = omega arith in
-          rw (law x h, at) (slice-in (list x) (getD base (h .note) 0) (c (h .note)) (idx (one g (tables (h .note) x) h) - 1) (val h (one g (tables (h .note) x) h)) (omega arith))) some few
+          subst (λ (m : ℕ). 1 ≤ idx (next m x h) → idx (next m x h) ≤ c m
+          → part m (put g starts marks x h) ≡ set (part m x) (idx (next m x h) - 1) (val h (next m x h))) e (λ some few.
+          let m = h .note in
+          let at : from m + idx (next m x h) - 1 ≡ from m + (idx (next m x h) - 1) = omega arith in
+          rw (law x h, at) (slice-in (list x) (from m) (c m) (idx (next m x h) - 1) (val h (next m x h)) (omega arith))) some few
 
       part-there : (x : Buffers) (h : Hit) (n : ℕ) → (h .note ≡ n → ⊥) → h .note < 128 → n < 128
-          → 1 ≤ idx (one g (tables (h .note) x) h) → idx (one g (tables (h .note) x) h) ≤ c (h .note)
-          → take (c n) (drop (getD base n 0) (list (put g starts marks x h))) ≡ take (c n) (drop (getD base n 0) (list x))
-      part-there x h n k low here some few = rw (law x h) (slice-out (list x) (getD base n 0) (c n) _ _ (side (apart (h .note) n low here k)))
+          → 1 ≤ idx (next (h .note) x h) → idx (next (h .note) x h) ≤ c (h .note) → part n (put g starts marks x h) ≡ part n x
+      part-there x h n k low here some few =
+          rw (law x h) (slice-out (list x) (from n) (c n) _ _ (side (apart (h .note) n low here k)))
         where
-          side : (getD base (h .note) 0 + c (h .note) ≤ getD base n 0) ⊎ (getD base n 0 + c n ≤ getD base (h .note) 0)
-              → (getD base (h .note) 0 + idx (one g (tables (h .note) x) h) - 1 < getD base n 0) ⊎ (getD base n 0 + c n ≤ getD base (h .note) 0 + idx (one g (tables (h .note) x) h) - 1)
+          side : (from (h .note) + c (h .note) ≤ from n) ⊎ (from n + c n ≤ from (h .note))
+              → let at = from (h .note) + idx (next (h .note) x h) - 1 in (at < from n) ⊎ (from n + c n ≤ at)
           side (inl l) = inl (omega arith)
           side (inr l) = inr (omega arith)
 
@@ -138,8 +180,8 @@ module _ (g : Grid) (idx : One → ℕ) (val : Hit → One → ℕ) where
           subst (λ (m : ℕ). m < 128 → tables m (put g starts marks x h) ≡ one g (tables m x) h) e
           (λ l. tables-here starts marks (h .note) (step-of g h) (g .steps) x w l) l
 
-      inside-on : (x : Buffers) (h : Hit) (hs : List Hit) (m : ℕ) → Long x → m < 128 → Inside (c m) (tables m x) (kept (of-sound m) (h ∷ hs))
-          → Inside (c m) (tables m (put g starts marks x h)) (kept (of-sound m) hs)
+      inside-on : (x : Buffers) (h : Hit) (hs : List Hit) (m : ℕ) → Long x → m < 128
+          → Inside (c m) (tables m x) (kept (of-sound m) (h ∷ hs)) → Inside (c m) (tables m (put g starts marks x h)) (kept (of-sound m) hs)
       inside-on x h hs m w l i = step (eqb (h .note) m) refl
         where
           step : (b : Bool) → eqb (h .note) m ≡ b → Inside (c m) (tables m (put g starts marks x h)) (kept (of-sound m) hs)
@@ -153,8 +195,7 @@ module _ (g : Grid) (idx : One → ℕ) (val : Hit → One → ℕ) where
 
       pub scattered : (x : Buffers) (hs : List Hit) → Long x → ((h : Hit) → h ∈ hs → h .note < 128)
           → ((m : ℕ) → m < 128 → Inside (c m) (tables m x) (kept (of-sound m) hs)) → (n : ℕ) → n < 128
-          → take (c n) (drop (getD base n 0) (list (over (put g starts marks) x hs)))
-          ≡ writes (tables n x) (take (c n) (drop (getD base n 0) (list x))) (kept (of-sound n) hs)
+          → part n (over (put g starts marks) x hs) ≡ writes (tables n x) (part n x) (kept (of-sound n) hs)
       unfolding kept
       scattered x [] w low i n l = refl
       scattered x (h ∷ hs) w low i n l =
@@ -164,15 +205,20 @@ module _ (g : Grid) (idx : One → ℕ) (val : Hit → One → ℕ) where
         where
           own : Inside (c (h .note)) (tables (h .note) x) (h ∷ kept (of-sound (h .note)) hs)
           own =
-              subst (λ (l : List Hit). Inside (c (h .note)) (tables (h .note) x) l) (kept-yes (of-sound (h .note)) h hs (eq-eqb (h .note) (h .note) refl))
+              subst (λ (l : List Hit). Inside (c (h .note)) (tables (h .note) x) l)
+              (kept-yes (of-sound (h .note)) h hs (eq-eqb (h .note) (h .note) refl))
               (i (h .note) (low h (inl refl)))
 
           step : (b : Bool) → eqb (h .note) n ≡ b
-              → writes (tables n (put g starts marks x h)) (take (c n) (drop (getD base n 0) (list (put g starts marks x h)))) (kept (of-sound n) hs)
-              ≡ writes (tables n x) (take (c n) (drop (getD base n 0) (list x))) (kept (of-sound n) (h ∷ hs))
+              → writes (tables n (put g starts marks x h)) (part n (put g starts marks x h)) (kept (of-sound n) hs)
+              ≡ writes (tables n x) (part n x) (kept (of-sound n) (h ∷ hs))
           step true e =
               let is : h .note ≡ n = eqb-true _ _ e in
               let own′ = subst (λ (l : List Hit). Inside (c n) (tables n x) l) (kept-yes (of-sound n) h hs e) (i n l) in
               rw (kept-yes (of-sound n) h hs e, here-is x h n w l is, part-here x h n is (own′ .0) (own′ .1))
           step false e =
-              rw (kept-not (of-sound n) h hs e, tables-there starts marks (h .note) (step-of g h) (g .steps) x n (λ f. eqb-false _ _ e (sym f)), part-there x h n (eqb-false _ _ e) (low h (inl refl)) l (own .0) (own .1))
+              rw (
+                kept-not (of-sound n) h hs e,
+                tables-there starts marks (h .note) (step-of g h) (g .steps) x n (λ f. eqb-false _ _ e (sym f)),
+                part-there x h n (eqb-false _ _ e) (low h (inl refl)) l (own .0) (own .1),
+              )

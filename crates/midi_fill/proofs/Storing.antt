@@ -1,14 +1,14 @@
 -- What is stored for a hit: how large it is, and that the code's locals are the definition's.
 -- Assumes nothing.
-use mathlib.Core.Path.{_≡_, refl}
+use mathlib.Core.Path.{_≡_}
 use mathlib.Core.Bool.{Bool, true, false, cond}
 use mathlib.Core.List.{List}
-use Prim.Native.Nat.{ℕ, _+_, _-_, _/_, _%_, _≤_, _<_}
+use Prim.Native.Nat.{ℕ, _+_, _-_, _/_, _%_, _≤_}
 use native.Mathlib.Omega.{arith}
 use lib.Dec.{eqb}
 use lib.ListN.{getD, set}
 use Rattle.midi_count.specs.Tallies.{fresh, opens}
-use Rattle.midi_fill.specs.Stores.{in-last, place, Buffers, buffers, stored}
+use Rattle.midi_fill.specs.Stores.{in-last, Buffers, buffers, stored}
 
 pub in-last-le : (more new before : ℕ) → in-last more new before ≤ before + new
 in-last-le more new before = go (eqb more 0)

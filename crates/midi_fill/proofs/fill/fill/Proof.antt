@@ -1,6 +1,6 @@
 -- What holds before each event is proofs/Filling.antt's Standing.
 -- Assumes nothing.
-use mathlib.Core.Path.{_≡_, refl, sym, ap, _∙_}
+use mathlib.Core.Path.{_≡_, sym, _∙_}
 use mathlib.Core.List.{List}
 use Prim.Native.Nat.{ℕ, _-_}
 use native.Mathlib.Omega.{arith}
@@ -12,17 +12,20 @@ use Rattle.midi_read.specs.Files.{grid, read-event}
 use Rattle.midi_read.specs.Promise.{event-answer}
 use Rattle.midi_read.proofs.Walks.{past-hit, past-silent}
 use Rattle.midi_fill.specs.Stores.{buffers}
-use Rattle.midi_fill.proofs.Filling.{Standing, standing-start, standing-silent, standing-put, puttable, filled-far, filled-end, filled-refused}
+use Rattle.midi_fill.proofs.Filling.{Standing, standing-start, standing-silent, standing-put}
+use Rattle.midi_fill.proofs.Filling.{puttable, filled-far, filled-end, filled-refused}
 use Rattle.midi_fill.proofs.fill.fill.Statement.{statement}
 use Rattle.midi_fill.proofs.fill.fill.Tie as tie
 
 abbrev Inv-loop : tie.InvT-loop
-Inv-loop s ticks steps last₀ postings₀ positions₀ inside₀ starts marks ids₀ counts₀ places₀ reader₀ last postings positions inside ids counts places reader =
+Inv-loop s ticks steps last₀ postings₀ positions₀ inside₀ starts marks ids₀ counts₀ places₀ reader₀
+    last postings positions inside ids counts places reader =
     Standing s (grid ticks steps) starts marks (buffers last₀ postings₀ positions₀ inside₀ ids₀ counts₀ places₀)
     (buffers last postings positions inside ids counts places) reader
 
 abbrev μ-loop : tie.MeasureT-loop
-μ-loop s ticks steps last₀ postings₀ positions₀ inside₀ starts marks ids₀ counts₀ places₀ reader₀ last postings positions inside ids counts places reader = length s - reader .at
+μ-loop s ticks steps last₀ postings₀ positions₀ inside₀ starts marks ids₀ counts₀ places₀ reader₀
+    last postings positions inside ids counts places reader = length s - reader .at
 
 -- behind an event: the loop's start, and what the code was told of it
 abbrev start : tie.At-loop Inv-loop μ-loop → tie.Start Inv-loop μ-loop
@@ -35,7 +38,8 @@ abbrev at-hit : tie.After-struct-known Inv-loop μ-loop → tie.At-loop Inv-loop
 at-hit c = c .before .before .before .before .before
 
 a-hit : (c : tie.After-struct-known Inv-loop μ-loop) → let l = at-hit c in
-    event-answer (read-event (bytes l) (l .loop .reader)) ≡ Sounds (c .before .before .h .given .0 .0) (c .before .before .h .given .0 .1 .0)
+    let told = c .before .before .h .given .0 in
+    event-answer (read-event (bytes l) (l .loop .reader)) ≡ Sounds (told .0) (told .1 .0)
 a-hit c = sym (c .before .before .before .before .step .ensures) ∙ c .before .before .h .given .1
 
 a-silent : (c : tie.After-known-told2 Inv-loop μ-loop) → let l = c .before .before .before .before in

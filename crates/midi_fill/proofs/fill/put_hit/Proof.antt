@@ -51,7 +51,12 @@ element-copy-out-in-last-bar c = search needs
 in-last-bar-requires : tie.Need-in-last-bar-requires
 in-last-bar-requires c κs =
     let p = c .before .before .before .before .before .before .before .before .before in
-    omega (arith, p .pre .inside-low .holds (p .args .note), fresh-le (getD (now (p .args .last)) (p .args .note) 0) (p .args .step), c .before .before .before .is-fresh .ensures)
+    omega (
+      arith,
+      p .pre .inside-low .holds (p .args .note),
+      fresh-le (getD (now (p .args .last)) (p .args .note) 0) (p .args .step),
+      c .before .before .before .is-fresh .ensures,
+    )
 
 mul-a : tie.Need-mul-a
 mul-a c = search needs
@@ -118,14 +123,15 @@ slice-write-ids c = search needs
 
 cast-counts : tie.Need-cast-counts
 cast-counts c =
-    let p = c .before .before .before .before .before .before .before .before .before .before .before .before in
+    let fresh = c .before .before .before .before .before .before in
+    let p = fresh .before .before .before .before .before .before in
     omega (
       arith,
       p .pre .inside-low .holds (p .args .note),
       fresh-le (getD (now (p .args .last)) (p .args .note) 0) (p .args .step),
-      c .before .before .before .before .before .before .is-fresh .ensures,
+      fresh .is-fresh .ensures,
       c .before .before .in-last-bar .ensures,
-      in-last-le (c .before .before .before .before .before .before .before .does-open .result) (c .before .before .before .before .before .before .is-fresh .result) (getD (now (p .args .inside)) (p .args .note) 0),
+      in-last-le (fresh .before .does-open .result) (fresh .is-fresh .result) (getD (now (p .args .inside)) (p .args .note) 0),
     )
 
 mul-counts : tie.Need-mul-counts
@@ -160,11 +166,12 @@ same-length-3 c = search needs
 
 returns : tie.Need-returns
 returns c =
-    let p = c .before .before .before .before .before .before .before .before .before .before .before .before in
+    let fresh = c .before .before .before .before .before .before in
+    let p = fresh .before .before .before .before .before .before in
     stored-as (now (p .args .starts)) (now (p .args .marks)) (p .args .note) (p .args .step) (p .args .steps)
     (buffers (now (p .args .last)) (now (p .args .postings)) (now (p .args .positions)) (now (p .args .inside)) (now (p .args .ids))
     (now (p .args .counts)) (now (p .args .places)))
-    (c .before .before .before .before .before .before .before .does-open .ensures) (c .before .before .before .before .before .before .is-fresh .ensures) (c .before .before .in-last-bar .ensures)
+    (fresh .before .does-open .ensures) (fresh .is-fresh .ensures) (c .before .before .in-last-bar .ensures)
     (p .pre .in-bar .bar-is) (in-bar-rest _ _ _ (p .pre .in-bar .bar-is))
 
 pub put-hit-spec : {M : Type 1} → statement M
