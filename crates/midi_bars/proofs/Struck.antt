@@ -38,7 +38,7 @@ module _ (g : Grid) where
   on-true : (n b p : ℕ) (h : Hit) → h .note ≡ n → bar-of g h ≡ b → position-of g h ≡ p → on-position g n b p h ≡ true
   on-true n b p h e f k = rw (eq-eqb (h .note) n e, eq-eqb (bar-of g h) b f, eq-eqb (position-of g h) p k)
 
-  bar-gives : (n b : ℕ) (h : Hit) → in-bar g n b h ≡ true → (h .note ≡ n) × (bar-of g h ≡ b)
+  pub bar-gives : (n b : ℕ) (h : Hit) → in-bar g n b h ≡ true → (h .note ≡ n) × (bar-of g h ≡ b)
   bar-gives n b h t =
       (eqb-true _ _ (and-left (of-sound n h) (eqb (bar-of g h) b) t), eqb-true _ _ (and-right (of-sound n h) (eqb (bar-of g h) b) t))
 
