@@ -58,7 +58,8 @@ pub record Listed (g : Given) (name : List ℕ) (bar position : ℕ) : Type 0 wh
 
 -- the lists have exactly these hits: none is lost, and none is added
 pub record Holds-hits (g : Grid) (hs : List Hit) : Type 0 where
-  pub kept : (note bar position : ℕ) → note < 128 → Struck g hs note bar position ↔ Listed (given (lists-of g hs)) (name-of note) bar position
+  pub kept : (note bar position : ℕ) → note < 128
+      → Struck g hs note bar position ↔ Listed (given (lists-of g hs)) (name-of note) bar position
   pub only : (name : List ℕ) (bar position : ℕ) → Listed (given (lists-of g hs)) name bar position
       → (note : ℕ) × (note < 128) × (name ≡ name-of note) × Struck g hs note bar position
   pub bars : (bar : ℕ) → (bar ∈ map (λ d. d .id) (given (lists-of g hs) .documents)) ↔ ((h : Hit) × (h ∈ hs) × (bar ≤ bar-of g h))

@@ -17,8 +17,8 @@ division file = big-field 2 12 file
 unfoldable pub note-ons : (steps quarter : ℕ) (file : List ℕ) → Result (List Hit)
 note-ons steps quarter file = chunks steps quarter file >>= (λ g. hits g file)
 
--- one of them is of this note, and its tick, divided by a quarter of the division (where a quarter has four steps) and rounded down, is this
--- step
+-- one of them is of this note, and its tick, divided by a quarter of the division (where a quarter has four steps) and rounded down, is
+-- this step
 pub record Plays (quarter : ℕ) (file : List ℕ) (hs : List Hit) (note step : ℕ) : Type 0 where
   pub hit : Hit
   pub there : hit ∈ hs

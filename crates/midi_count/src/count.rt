@@ -84,7 +84,8 @@ pub fn count(
     positions: &mut [u64; 128],
 ) -> Tallied
     requires { ⌜ Countable (now s) ticks steps (now postings) (now positions) ⌝ }
-    ensures { λ r. ⌜ Counts (grid ticks steps) (was s) (was last) (was postings) (was positions) r (left last) (left postings) (left positions) ⌝ }
+    ensures { λ r. ⌜ Counts (grid ticks steps) (was s) (was last) (was postings) (was positions) r
+        (left last) (left postings) (left positions) ⌝ }
 {
     let mut reader = Reader {
         at: 22,

@@ -1,5 +1,5 @@
--- What the filling pass comes to: the lists (crate midi_bars). Proved in proofs/Laid.antt and Passed.antt. It needs that ticks never fall in
--- file order, which crate midi_read proves (proofs/Fine.antt).
+-- What the filling pass comes to: the lists (crate midi_bars). Proved in proofs/Laid.antt and Passed.antt. It needs that ticks never fall
+-- in file order, which crate midi_read proves (proofs/Fine.antt).
 use Prim.Native.Nat.{ℕ, _+_, _≤_, _<_}
 use mathlib.Core.Path.{_≡_}
 use mathlib.Core.List.{List, [], _∷_, map}
@@ -41,7 +41,8 @@ Filling-right =
 -- what `fill` asks, after `count`, of a file that is read
 abbrev pub Fits : Type 0
 Fits =
-    (steps quarter : ℕ) (file : List ℕ) (g : Grid) (hs : List Hit) (a b c : List ℕ) → 1 ≤ steps → steps ≤ 64 → chunks steps quarter file ≡ ok g → hits g file ≡ ok hs
+    (steps quarter : ℕ) (file : List ℕ) (g : Grid) (hs : List Hit) (a b c : List ℕ) → 1 ≤ steps → steps ≤ 64
+    → chunks steps quarter file ≡ ok g → hits g file ≡ ok hs
     → length a ≡ length (lists-of g hs .posting-ids) → length b ≡ length (lists-of g hs .position-counts)
     → length c ≡ length (lists-of g hs .positions)
     → Fillable file (g .ticks) (g .steps) (starts-from 0 (counted g hs .postings)) (starts-from 0 (counted g hs .positions)) (begun a b c)
@@ -57,4 +58,5 @@ pub record Both-right (g : Grid) (file : List ℕ) (hs : List Hit) : Type 0 wher
 
 abbrev pub Passes-right : Type 0
 Passes-right =
-    (steps quarter : ℕ) (file : List ℕ) (g : Grid) (hs : List Hit) → 1 ≤ steps → chunks steps quarter file ≡ ok g → hits g file ≡ ok hs → Both-right g file hs
+    (steps quarter : ℕ) (file : List ℕ) (g : Grid) (hs : List Hit) → 1 ≤ steps → chunks steps quarter file ≡ ok g → hits g file ≡ ok hs
+    → Both-right g file hs

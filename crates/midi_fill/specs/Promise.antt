@@ -41,7 +41,8 @@ pub record Fillable (file : List ℕ) (ticks steps : ℕ) (starts marks : List �
   pub starts-low : Low 16777216 starts
   pub marks-low : Low 16777216 marks
   pub total : Tallies
-  pub counted : walk (tally (grid ticks steps)) (grid ticks steps) file first-event (tallies 0 (x .last) (x .postings) (x .positions)) ≡ ok total
+  pub counted : walk (tally (grid ticks steps)) (grid ticks steps) file first-event (tallies 0 (x .last) (x .postings) (x .positions))
+      ≡ ok total
   pub ids-fit : (n : ℕ) → n < 128 → getD starts n 0 + getD (total .postings) n 0 ≤ length (x .ids)
   pub counts-fit : (n : ℕ) → n < 128 → getD starts n 0 + getD (total .postings) n 0 ≤ length (x .counts)
   pub steps-fit : (n : ℕ) → n < 128 → getD marks n 0 + getD (total .positions) n 0 ≤ length (x .steps)

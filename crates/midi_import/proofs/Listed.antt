@@ -70,7 +70,8 @@ module _ (file : List ℕ) (ticks steps : ℕ) (hs : List Hit) (w : Readable fil
 
   -- ---- the second pass
 
-  module _ (starts marks a b c : List ℕ) (s : starts ≡ starts-from 0 (counted g hs .postings)) (m : marks ≡ starts-from 0 (counted g hs .positions))
+  module _ (starts marks a b c : List ℕ) (s : starts ≡ starts-from 0 (counted g hs .postings))
+      (m : marks ≡ starts-from 0 (counted g hs .positions))
       (la : length a ≡ length (lists-of g hs .posting-ids)) (lb : length b ≡ length (lists-of g hs .position-counts))
       (lc : length c ≡ length (lists-of g hs .positions)) where
     pub fillable : Fillable file ticks steps starts marks (begun a b c)
@@ -139,7 +140,7 @@ pub store-done : {file postings starts marks i le t e pc pi kc ps : List ℕ} {t
     → Store-fits file ticks steps postings starts marks b
     → Heads-put postings steps (b .ids) (b .lengths) i le t e pc → Fill-done (grid ticks steps) file pi kc ps
     → Store-done (grid ticks steps) file (lists i le t e pc pi kc ps)
-store-done {file} {postings} {i = i} {le = le} {t = t} {e = e} {pc = pc} {pi = pi} {kc = kc} {ps = ps} {ticks = ticks} {steps = steps} b w p f =
+store-done {file} {postings} {i = i} {le} {t} {e} {pc} {pi} {kc} {ps} {ticks} {steps} b w p f =
     record {
       each = λ hs is. subst (λ (h : List Hit). lists i le t e pc pi kc ps ≡ lists-of (grid ticks steps) h)
           (let same : w .hs ≡ hs = ok-same (sym (w .readable .hits-read) ∙ is) in same) own;
@@ -175,7 +176,8 @@ module _ {file postings positions : List ℕ} {ticks steps bars : ℕ} (w : Tabl
 
   pub terms-few : {n : ℕ} → n ≡ length (heard postings) → n ≤ 128
   terms-few {n} e =
-      let same : n ≡ length (heard (counted (grid ticks steps) (w .hs) .postings)) = e ∙ ap (λ (l : List ℕ). length (heard l)) (w .postings-are) in
+      let same : n ≡ length (heard (counted (grid ticks steps) (w .hs) .postings)) =
+      e ∙ ap (λ (l : List ℕ). length (heard l)) (w .postings-are) in
       omega (arith, heads file ticks steps (w .hs) (w .readable) .sounds-few)
 
   pub tabled-totals : (t : ListTotals) → t .documents ≡ bars → t .terms ≡ length (heard postings) → t .postings ≡ total postings

@@ -41,7 +41,13 @@ module _ (t : ListTotals) (i l x e pc pi kc ps : ℕ) where
         module _ (d : t .terms ≤ e) where
           pub short-5 : pc < t .terms → check.Refused (no-room 5 (t .terms)) ≡ R
           short-5 h =
-              rw (le-leb (t .documents) i a, le-leb (t .documents) l b, le-leb (4 * t .terms) x c, le-leb (t .terms) e d, lt-leb (t .terms) pc h)
+              rw (
+                le-leb (t .documents) i a,
+                le-leb (t .documents) l b,
+                le-leb (4 * t .terms) x c,
+                le-leb (t .terms) e d,
+                lt-leb (t .terms) pc h,
+              )
 
           module _ (f : t .terms ≤ pc) where
             pub short-6 : pi < t .postings → check.Refused (no-room 6 (t .postings)) ≡ R

@@ -64,5 +64,14 @@ pub fn store(
         (left-lists ids lengths text ends «posting_counts» «posting_ids» «position_counts» positions) ⌝ }
 {
     put_heads(postings, steps, ids, lengths, text, ends, posting_counts);
-    fill_lists(file, ticks, steps as u64, starts, marks, posting_ids, position_counts, positions);
+    fill_lists(
+        file,
+        ticks,
+        steps as u64,
+        starts,
+        marks,
+        posting_ids,
+        position_counts,
+        positions,
+    );
 }

@@ -141,13 +141,19 @@ slice-write-counts : tie.Need-slice-write-counts
 slice-write-counts c = search needs
 
 mul-places : tie.Need-mul-places
-mul-places c = let w = c .before .before .before .before .before .before .before .before .before .before .before .before .pre .in-bar in omega (arith, first-le _ _ _ (w .bar-is), w .near)
+mul-places c =
+    let w = c .before .before .before .before .before .before .before .before .before .before .before .before .pre .in-bar in
+    omega (arith, first-le _ _ _ (w .bar-is), w .near)
 
 sub-places : tie.Need-sub-places
-sub-places c = let w = c .before .before .before .before .before .before .before .before .before .before .before .before .pre .in-bar in omega (arith, first-le _ _ _ (w .bar-is))
+sub-places c =
+    let w = c .before .before .before .before .before .before .before .before .before .before .before .before .pre .in-bar in
+    omega (arith, first-le _ _ _ (w .bar-is))
 
 cast-places : tie.Need-cast-places
-cast-places c = let w = c .before .before .before .before .before .before .before .before .before .before .before .before .pre .in-bar in omega (arith, w .near)
+cast-places c =
+    let w = c .before .before .before .before .before .before .before .before .before .before .before .before .pre .in-bar in
+    omega (arith, w .near)
 
 mul-places-2 : tie.Need-mul-places-2
 mul-places-2 c = search needs

@@ -38,7 +38,8 @@ all k = lists-of (grid (entry k .args .ticks) (entry k .args .steps)) (entry k .
 
 totals : (k : tie.After-check-room) → Totals-of (all k) (found k)
 totals k =
-    tabled-totals (entry k .pre) (found k) refl (k .before .count-sounds .ensures) (k .before .before .before .before .begin .ensures .all) (k .before .before .begin2 .ensures .all)
+    tabled-totals (entry k .pre) (found k) refl (k .before .count-sounds .ensures) (k .before .before .before .before .begin .ensures .all)
+    (k .before .before .begin2 .ensures .all)
 
 passed : (k : tie.After-enum-told) → roomy-all (all (k .before .before)) (room (k .before .before)) ≡ ok tt
 passed k = room-passed _ _ _ (totals (k .before .before)) (k .before .before .check-room .ensures) (k .enum-told .given .1)
@@ -50,13 +51,17 @@ begin-requires : tie.Need-begin-requires
 begin-requires c κs = summable-postings (c .before .before .before .before .before .before .before .before .before .before .pre) _ refl
 
 begin-requires-2 : tie.Need-begin-requires-2
-begin-requires-2 c κs = summable-positions (c .before .before .before .before .before .before .before .before .before .before .before .before .pre) _ refl
+begin-requires-2 c κs =
+    let p = c .before .before .before .before .before .before .before .before .before .before .before .before in
+    summable-positions (p .pre) _ refl
 
 count-sounds-requires : tie.Need-count-sounds-requires
 count-sounds-requires c κs = search needs
 
 check-room-requires : tie.Need-check-room-requires
-check-room-requires c κs = terms-few (c .before .before .before .before .before .before .before .before .before .before .before .before .before .before .pre) (c .count-sounds .ensures)
+check-room-requires c κs =
+    let p = c .before .before .before .before .before .before .before .before .before .before .before .before .before .before in
+    terms-few (p .pre) (c .count-sounds .ensures)
 
 enum-known-x : tie.Need-enum-known-x
 enum-known-x c = search needs
@@ -65,7 +70,7 @@ enum-told : tie.Need-enum-told
 enum-told c = search needs
 
 mul-bytes : tie.Need-mul-bytes
-mul-bytes c = omega (arith, terms-few (c .before .before .before .before .before .before .before .before .before .before .before .before .before .before .before .before .before .pre) (c .before .before .before .count-sounds .ensures))
+mul-bytes c = let k = c .before .before in omega (arith, terms-few (entry k .pre) (k .before .count-sounds .ensures))
 
 slice-relend-prefix-store : tie.Need-slice-relend-prefix-store
 slice-relend-prefix-store c =
@@ -151,7 +156,8 @@ store-requires : tie.Need-store-requires
 store-requires c κs =
     let k = c .before .before .before .before .before .before .before .before .before .before in
     let r = k .before .before in
-    store-fits (entry r .pre) (r .before .before .before .before .begin .ensures .starts) (r .before .before .begin2 .ensures .starts) (cut (found r) (all r) (room r) (totals r) (enough k))
+    store-fits (entry r .pre) (r .before .before .before .before .begin .ensures .starts) (r .before .before .begin2 .ensures .starts)
+    (cut (found r) (all r) (room r) (totals r) (enough k))
 
 returns : tie.Need-returns
 returns c =
@@ -184,7 +190,8 @@ same-length-8 c = search needs
 
 returns-2 : tie.Need-returns-2
 returns-2 c =
-    let s = c .before .before .before .before .before .before .before .before .before .before .before .before .before .before .before .before in
+    let stored = c .before .before .before .before .before .before .before .before in
+    let s = stored .before .before .before .before .before .before .before .before in
     let k = s .before .before .before .before .before .before .before .before .before .before .before in
     let r = k .before .before in
     events-stored _ _ (room r) (found r) (entry r .pre .readable .hits-read) (totals r) (passed k) _ (s .store .ensures)

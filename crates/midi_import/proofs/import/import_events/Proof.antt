@@ -16,13 +16,16 @@ enum-known-bars c = search needs
 
 import-counted-requires : tie.Need-import-counted-requires
 import-counted-requires c κs =
-    let k = c .before .before .before .before .before .before .before .before .before .before .before .before .before in
-    count-tabled (k .before .before .before .before .before .before .before .before .before .before .before .before .before .pre) (k .count .ensures) (c .before .before .before .before .before .before .before .before .before .before .before .bars .given .1)
+    let b = c .before .before .before .before .before .before .before .before .before .before .before in
+    let k = b .before .before in
+    let p = k .before .before .before .before .before .before .before .before .before .before .before .before .before in
+    count-tabled (p .pre) (k .count .ensures) (b .bars .given .1)
 
 returns : tie.Need-returns
 returns c =
     let k = c .before .before .before in
-    events-broken _ _ _ (count-refused (k .before .before .before .before .before .before .before .before .before .before .before .before .before .pre) (k .count .ensures) (c .before .x .given .1))
+    let p = k .before .before .before .before .before .before .before .before .before .before .before .before .before in
+    events-broken _ _ _ (count-refused (p .pre) (k .count .ensures) (c .before .x .given .1))
 
 same-length : tie.Need-same-length
 same-length c = search needs
@@ -49,7 +52,9 @@ same-length-8 : tie.Need-same-length-8
 same-length-8 c = search needs
 
 returns-2 : tie.Need-returns-2
-returns-2 c = c .before .before .before .before .before .before .before .before .before .before .before .before .before .before .before .before .import-counted .ensures
+returns-2 c =
+    let imported = c .before .before .before .before .before .before .before .before in
+    imported .before .before .before .before .before .before .before .before .import-counted .ensures
 
 pub import-events-spec : {M : Type 1} → statement M
 import-events-spec =

@@ -15,8 +15,8 @@ enum-known-ticks c = search needs
 
 import-events-requires : tie.Need-import-events-requires
 import-events-requires c κs =
-    let k = c .before .before .before .before .before .before .before .before .before .before .before in
-    chunked-so 16 4 _ (k .read-chunks .ensures) (c .before .before .before .before .before .before .before .before .before .ticks .given .1) (omega arith) (omega arith)
+    let t = c .before .before .before .before .before .before .before .before .before in
+    chunked-so 16 4 _ (t .before .before .read-chunks .ensures) (t .ticks .given .1) (omega arith) (omega arith)
 
 returns : tie.Need-returns
 returns c = bars-refused 16 4 _ _ (c .before .before .before .read-chunks .ensures) (c .before .x .given .1)
@@ -47,8 +47,10 @@ same-length-8 c = search needs
 
 returns-2 : tie.Need-returns-2
 returns-2 c =
-    let e = c .before .before .before .before .before .before .before .before .before .before .before .before .before .before .before .before in
-    bars-imported 16 4 _ _ (e .before .before .before .before .before .before .before .before .before .before .before .before .read-chunks .ensures) (e .before .before .before .before .before .before .before .before .before .before .ticks .given .1) (e .import-events .ensures)
+    let imported = c .before .before .before .before .before .before .before .before in
+    let e = imported .before .before .before .before .before .before .before .before in
+    let t = e .before .before .before .before .before .before .before .before .before .before in
+    bars-imported 16 4 _ _ (t .before .before .read-chunks .ensures) (t .ticks .given .1) (e .import-events .ensures)
 
 pub midi-bars-spec : {M : Type 1} → statement M
 midi-bars-spec =

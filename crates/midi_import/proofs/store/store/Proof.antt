@@ -5,10 +5,15 @@ use Rattle.midi_import.proofs.store.store.Statement.{statement}
 use Rattle.midi_import.proofs.store.store.Tie as tie
 
 put-heads-requires : tie.Need-put-heads-requires
-put-heads-requires c κs = heads-fit (c .before .before .before .before .before .before .before .before .before .before .before .before .before .before .pre)
+put-heads-requires c κs =
+    let p = c .before .before .before .before .before .before .before .before .before .before .before .before .before .before in
+    heads-fit (p .pre)
 
 fill-lists-requires : tie.Need-fill-lists-requires
-fill-lists-requires c κs = fill-fits (c .before .before .before .before .before .before .before .before .before .before .before .before .before .before .before .before .before .before .before .before .before .before .before .before .before .before .before .before .pre)
+fill-lists-requires c κs =
+    let put = c .before .before .before .before .before .before .before .before .before .before .before .before .before in
+    let p = put .before .before .before .before .before .before .before .before .before .before .before .before .before .before .before in
+    fill-fits (p .pre)
 
 same-length : tie.Need-same-length
 same-length c = search needs
@@ -38,7 +43,8 @@ returns : tie.Need-returns
 returns c =
     let f = c .before .before .before .before .before .before in
     let p = f .before .before .before .before .before .before .before .before .before .before .before .before .before .before in
-    store-done _ (p .before .before .before .before .before .before .before .before .before .before .before .before .before .before .before .pre) (p .put-heads .ensures) (f .fill-lists .ensures)
+    let q = p .before .before .before .before .before .before .before .before .before .before .before .before .before .before .before in
+    store-done _ (q .pre) (p .put-heads .ensures) (f .fill-lists .ensures)
 
 pub store-spec : {M : Type 1} → statement M
 store-spec =
