@@ -7,7 +7,7 @@ use Rattle.segment.specs.declared.replies.Imported.the-variants as imported
 use Rattle.calls.specs.Given.{lists}
 use Rattle.cases.specs.Through.{importing}
 use Rattle.cases.specs.Sealing.{refused}
-use Rattle.cases.specs.Midi-made.{tune, end, taken, room, into, replied, left, totals}
+use Rattle.cases.specs.Midi-made.{tune, end, taken, room, into, Answered, totals}
 use Rattle.cases.specs.Midi-files.{n036, n038, n042, groove, equal-hits}
 
 -- ---- steps
@@ -125,37 +125,32 @@ short-of-one = refl
 -- ---- the buffers afterwards
 
 -- the lists in front, and what stood behind. Fails: a tail cleared, lists at the ends
-tails-kept : left (room 4 3 9 3 2 4 3 5) equal-hits
-    ≡ lists (0 ∷ 1 ∷ 2 ∷ 90 ∷ []) (16 ∷ 16 ∷ 16 ∷ []) (n036 ++ n038 ++ 92 ∷ []) (4 ∷ 8 ∷ 93 ∷ []) (1 ∷ 2 ∷ []) (0 ∷ 0 ∷ 2 ∷ 95 ∷ [])
-    (1 ∷ 1 ∷ 1 ∷ []) (0 ∷ 0 ∷ 3 ∷ 97 ∷ 97 ∷ [])
+tails-kept : Answered equal-hits (room 4 3 9 3 2 4 3 5) (totals 3 2 3 3)
+    (lists (0 ∷ 1 ∷ 2 ∷ 90 ∷ []) (16 ∷ 16 ∷ 16 ∷ []) (n036 ++ n038 ++ 92 ∷ []) (4 ∷ 8 ∷ 93 ∷ []) (1 ∷ 2 ∷ []) (0 ∷ 0 ∷ 2 ∷ 95 ∷ [])
+    (1 ∷ 1 ∷ 1 ∷ []) (0 ∷ 0 ∷ 3 ∷ 97 ∷ 97 ∷ []))
 unfolding importing
-tails-kept = refl
+tails-kept = record { reply = refl; left = refl }
 
--- 13 of the last buffer leaves all eight. Fails: the first seven filled
-left-by-13 : left (room 2 2 12 3 3 4 4 5) groove ≡ room 2 2 12 3 3 4 4 5
+-- the other four tails. Fails: a tail cleared
+other-tails-kept : Answered equal-hits (room 3 5 8 2 3 3 4 3) (totals 3 2 3 3)
+    (lists (0 ∷ 1 ∷ 2 ∷ []) (16 ∷ 16 ∷ 16 ∷ 91 ∷ 91 ∷ []) (n036 ++ n038) (4 ∷ 8 ∷ []) (1 ∷ 2 ∷ 94 ∷ []) (0 ∷ 0 ∷ 2 ∷ [])
+    (1 ∷ 1 ∷ 1 ∷ 96 ∷ []) (0 ∷ 0 ∷ 3 ∷ []))
 unfolding importing
-left-by-13 = refl
+other-tails-kept = record { reply = refl; left = refl }
 
-left-by-13-reply : replied (room 2 2 12 3 3 4 4 5) groove ≡ imported.Refused (record { kind = 13; which = 8; index = 6 })
+-- a refusal leaves all eight: 13 of the last. Fails: the first seven filled
+left-by-13 : Answered groove (room 2 2 12 3 3 4 4 5) (imported.Refused (record { kind = 13; which = 8; index = 6 })) (room 2 2 12 3 3 4 4 5)
 unfolding importing
-left-by-13-reply = refl
+left-by-13 = record { reply = refl; left = refl }
 
--- so does 14 of the last event, and 15. Fails: hits stored as they are read
-left-by-14 : left (room 9 9 9 9 9 9 9 9) (tune 4 (0x00 ∷ 0x90 ∷ 0x24 ∷ 0x64 ∷ end ++ 0x00 ∷ [])) ≡ room 9 9 9 9 9 9 9 9
+-- 14 of the last byte, with room for all. Fails: hits stored as they are read
+left-by-14 : Answered (tune 4 (0x00 ∷ 0x90 ∷ 0x24 ∷ 0x64 ∷ end ++ 0x00 ∷ [])) (room 9 9 9 9 9 9 9 9)
+    (imported.Refused (record { kind = 14; which = 0; index = 30 })) (room 9 9 9 9 9 9 9 9)
 unfolding importing
-left-by-14 = refl
+left-by-14 = record { reply = refl; left = refl }
 
-left-by-14-reply : replied (room 9 9 9 9 9 9 9 9) (tune 4 (0x00 ∷ 0x90 ∷ 0x24 ∷ 0x64 ∷ end ++ 0x00 ∷ []))
-    ≡ imported.Refused (record { kind = 14; which = 0; index = 30 })
+-- 15 of the last hit. Fails: the first hit's bar made
+left-by-15 : Answered (tune 4 (0x00 ∷ 0x90 ∷ 0x24 ∷ 0x64 ∷ 0xC0 ∷ 0x80 ∷ 0x00 ∷ 0x24 ∷ 0x64 ∷ end)) (room 9 9 9 9 9 9 9 9)
+    (imported.Refused (record { kind = 15; which = 0; index = 0 })) (room 9 9 9 9 9 9 9 9)
 unfolding importing
-left-by-14-reply = refl
-
-left-by-15 : left (room 9 9 9 9 9 9 9 9) (tune 4 (0x00 ∷ 0x90 ∷ 0x24 ∷ 0x64 ∷ 0xC0 ∷ 0x80 ∷ 0x00 ∷ 0x24 ∷ 0x64 ∷ end))
-    ≡ room 9 9 9 9 9 9 9 9
-unfolding importing
-left-by-15 = refl
-
-left-by-15-reply : replied (room 9 9 9 9 9 9 9 9) (tune 4 (0x00 ∷ 0x90 ∷ 0x24 ∷ 0x64 ∷ 0xC0 ∷ 0x80 ∷ 0x00 ∷ 0x24 ∷ 0x64 ∷ end))
-    ≡ imported.Refused (record { kind = 15; which = 0; index = 0 })
-unfolding importing
-left-by-15-reply = refl
+left-by-15 = record { reply = refl; left = refl }

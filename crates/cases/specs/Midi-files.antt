@@ -6,7 +6,7 @@ use Rattle.segment.specs.Results.{ok}
 use Rattle.calls.specs.Given.{Lists, lists}
 use Rattle.cases.specs.Through.{importing}
 use Rattle.cases.specs.Sealing.{refused}
-use Rattle.cases.specs.Midi-made.{taken, room, into, replied, totals, put}
+use Rattle.cases.specs.Midi-made.{taken, room, into, Answered, totals, put}
 
 -- the bytes of the names
 abbrev pub n036 : List ℕ
@@ -47,9 +47,9 @@ unfolding importing
 groove-taken = refl
 
 -- bars, sounds, postings, positions, with every buffer exactly full. Fails: hits for positions, 13 while places suffice
-groove-counted : replied (room 2 2 12 3 3 4 4 6) groove ≡ totals 2 3 4 6
+groove-answered : Answered groove (room 2 2 12 3 3 4 4 6) (totals 2 3 4 6) groove-lists
 unfolding importing
-groove-counted = refl
+groove-answered = record { reply = refl; left = refl }
 
 -- one posting count short. Fails: index the room, which buffer from 0
 groove-short : into (room 2 2 12 3 2 4 4 6) groove ≡ refused 13 5 3
@@ -82,9 +82,9 @@ unfolding importing
 equal-hits-taken = refl
 
 -- Fails: hits counted, five
-equal-hits-counted : replied (room 3 3 8 2 2 3 3 3) equal-hits ≡ totals 3 2 3 3
+equal-hits-answered : Answered equal-hits (room 3 3 8 2 2 3 3 3) (totals 3 2 3 3) equal-hits-lists
 unfolding importing
-equal-hits-counted = refl
+equal-hits-answered = record { reply = refl; left = refl }
 
 -- ---- a data byte after a meta event
 
@@ -193,10 +193,6 @@ no-hits =
     ∷ []
 
 -- no bars, no sounds, and nothing need be lent. Fails: a bar 0, 13
-no-hits-taken : put no-hits ≡ ok (lists [] [] [] [] [] [] [] [])
+no-hits-answered : Answered no-hits (room 0 0 0 0 0 0 0 0) (totals 0 0 0 0) (lists [] [] [] [] [] [] [] [])
 unfolding importing
-no-hits-taken = refl
-
-no-hits-counted : replied (room 0 0 0 0 0 0 0 0) no-hits ≡ totals 0 0 0 0
-unfolding importing
-no-hits-counted = refl
+no-hits-answered = record { reply = refl; left = refl }

@@ -7,8 +7,9 @@ use Rattle.segment.specs.declared.replies.Imported.{Imported}
 use Rattle.segment.specs.declared.replies.Imported.the-variants as imported
 use Rattle.calls.specs.Given.{Lists, lists}
 use Rattle.midi_read.specs.declared.track.Hit.{Hit}
-use Rattle.midi_bars.specs.Imports.{import-file, import-into, import-answer, import-left}
+use Rattle.midi_bars.specs.Imports.{import-file, import-into}
 use Rattle.midi_bars.specs.Words.{note-ons}
+use Rattle.midi_import.specs.Promise.{Bars-imported}
 
 -- ---- files
 
@@ -41,15 +42,13 @@ room i l t e pc pi kc ps =
     lists (replicate i 90) (replicate l 91) (replicate t 92) (replicate e 93) (replicate pc 94) (replicate pi 95) (replicate kc 96)
     (replicate ps 97)
 
--- the call, with these buffers lent: its answer, its reply, and the buffers afterwards
+-- the call, with these buffers lent
 abbrev pub into : Lists → (file : List ℕ) → Result Lists
 into lent file = import-into 16 4 file lent
 
-abbrev pub replied : Lists → (file : List ℕ) → Imported
-replied lent file = import-answer (into lent file)
-
-abbrev pub left : Lists → (file : List ℕ) → Lists
-left lent file = import-left (into lent file) lent
+-- its promise: of the reply, and of the buffers afterwards
+abbrev pub Answered : (file : List ℕ) (lent : Lists) (r : Imported) (left : Lists) → Type 0
+Answered = Bars-imported 16 4
 
 -- the reply's four numbers
 abbrev pub totals : (bars sounds postings positions : ℕ) → Imported

@@ -41,8 +41,8 @@ nothing : put [] ≡ refused 14 0 0
 unfolding importing
 nothing = refl
 
--- 13 bytes of it. Fails: the missing byte as 0
-header-cut : put (take 13 fine) ≡ refused 14 0 0
+-- 13 bytes of it, to the first of 04 00, the division. Fails: a division of one byte, 14 0 14
+header-cut : put (take 13 (tune 1024 end)) ≡ refused 14 0 0
 unfolding importing
 header-cut = refl
 
