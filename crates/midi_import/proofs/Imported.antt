@@ -17,7 +17,7 @@ use Rattle.segment.specs.declared.replies.Imported.the-variants as imported
 use Rattle.segment.specs.Refusals.{no-room}
 use Rattle.segment.specs.Results.{Result, ok, refuse, _>>=_, roomy}
 use Rattle.segment.specs.Steps.{checked}
-use Rattle.segment.proofs.Accepted.{check-gives}
+use Rattle.segment.proofs.Accepted.{passed-ok, refused-is}
 use Rattle.segment.proofs.Binds.{bind-gives}
 use Rattle.calls.specs.Given.{Lists, lists}
 use Rattle.midi_read.specs.declared.track.Hit.{Hit}
@@ -26,7 +26,6 @@ use Rattle.midi_read.specs.declared.chunks.Chunks.the-variants as chunked
 use Rattle.midi_read.specs.Files.{Grid, grid, chunks, hits, first-event}
 use Rattle.midi_read.specs.Walks.{walk, over}
 use Rattle.midi_read.specs.Promise.{grid-answer, Chunks-read}
-use Rattle.midi_read.proofs.Chunked.{checked-ok, checked-refused}
 use Rattle.midi_bars.specs.Bars.{lists-of}
 use Rattle.midi_bars.specs.Imports.{roomy-all, import-file, import-into, import-answer, import-left}
 use Rattle.midi_fill.proofs.Passed.{framed}
@@ -43,10 +42,10 @@ module _ (l b : Lists) (t : ListTotals) (w : Totals-of l t) where
       (length (b .posting-ids)) (length (b .position-counts)) (length (b .positions)))
 
   pub room-passed : {r : Checked} → r ≡ tested → r ≡ check.Passed → roomy-all l b ≡ ok tt
-  room-passed e f = let (u, is) = checked-ok (roomy-all l b) (ap checked (sym (room-is l b t w)) ∙ sym e ∙ f) in is
+  room-passed e f = let (u, is) = passed-ok (roomy-all l b) (sym f ∙ e ∙ ap checked (room-is l b t w)) in is
 
   pub room-refused : {r : Checked} {x : Refusal} → r ≡ tested → r ≡ check.Refused x → roomy-all l b ≡ refuse x
-  room-refused e f = checked-refused (roomy-all l b) (ap checked (sym (room-is l b t w)) ∙ sym e ∙ f)
+  room-refused e f = refused-is (roomy-all l b) (sym f ∙ e ∙ ap checked (room-is l b t w))
 
 -- ---- events
 

@@ -126,12 +126,6 @@ ticks-refused : (r : Result ℕ) {x : Refusal} → ticks-answer r ≡ chunked.Re
 ticks-refused (ok u) e = let z : _≡_ {A = ℕ} 0 1 = cc in absurd (omega arith)
 ticks-refused (refuse y) e = ap refuse cc
 
-pub checked-ok : {A : Type 0} (r : Result A) → checked r ≡ check.Passed → (a : A) × (r ≡ ok a)
-checked-ok r e = passed-ok r (sym e)
-
-pub checked-refused : {A : Type 0} (r : Result A) {x : Refusal} → checked r ≡ check.Refused x → r ≡ refuse x
-checked-refused r e = refused-is r (sym e)
-
 module _ (steps quarter : ℕ) (file : List ℕ) where
   abbrev C : Chunks
   C = grid-answer (chunks steps quarter file)
@@ -148,10 +142,10 @@ module _ (steps quarter : ℕ) (file : List ℕ) where
     module _ {t : ℕ} (e : ticks-answer (header quarter file) ≡ chunked.Ticks t) where
       pub chunks-heading : {x : Refusal} → checked (heading file) ≡ check.Refused x → chunked.Refused x ≡ C
       unfolding chunks
-      chunks-heading f = rw (le-leb (length file) 16777216 small, ticks-ok (header quarter file) e, checked-refused (heading file) f)
+      chunks-heading f = rw (le-leb (length file) 16777216 small, ticks-ok (header quarter file) e, refused-is (heading file) (sym f))
 
       pub chunks-fit : checked (heading file) ≡ check.Passed → chunked.Ticks t ≡ C
       unfolding chunks
       chunks-fit f =
-          let (a, is) = checked-ok (heading file) f in
+          let (a, is) = passed-ok (heading file) (sym f) in
           rw (le-leb (length file) 16777216 small, ticks-ok (header quarter file) e, is)
