@@ -2,12 +2,15 @@
 use Prim.Native.Nat.{ℕ, _+_, _*_, _≤_, _<_}
 use mathlib.Core.Path.{_≡_}
 use mathlib.Core.List.{List, [], _∷_}
+use mathlib.Core.Logic.{_⊎_, _↔_}
 use lib.ListN.{length}
 use Rattle.common.specs.Elements.{_∈_}
-use Rattle.segment.specs.Results.{ok}
+use Rattle.segment.specs.Refusals.{midi-file}
+use Rattle.segment.specs.Results.{ok, refuse, _>>=_}
 use Rattle.midi_read.specs.declared.track.Reader.{Reader}
 use Rattle.midi_read.specs.declared.track.Hit.{Hit}
-use Rattle.midi_read.specs.Files.{Grid, Event, sounds, silent, ends, read-event, step-of, bar-of, position-of, hits}
+use Rattle.midi_read.specs.Files.{Grid, Event, sounds, silent, ends, read-event, step-of, bar-of, position-of, chunks, hits}
+use Rattle.midi_read.specs.Tracks.{Plays-so, Chunks-so, Within-rules, No-event-at, Byte-behind-end}
 
 -- a note of seven bits, and a velocity from 1 to 127
 pub record Audible (h : Hit) : Type 0 where
@@ -54,3 +57,25 @@ pub record On-grid (g : Grid) (h : Hit) : Type 0 where
 
 abbrev pub Grid-right : Type 0
 Grid-right = (g : Grid) (h : Hit) → 1 ≤ g .ticks → 1 ≤ g .steps → On-grid g h
+
+-- ---- the reader takes exactly the files of Tracks.antt
+
+-- events and hits
+abbrev pub Tracks-exactly : Type 0
+Tracks-exactly = (g : Grid) (file : List ℕ) (hs : List Hit) → (hits g file ≡ ok hs) ↔ Plays-so g file hs
+
+-- header and heading pass exactly so
+abbrev pub Chunks-exactly : Type 0
+Chunks-exactly = (steps quarter : ℕ) (file : List ℕ) (g : Grid) → (chunks steps quarter file ≡ ok g) ↔ Chunks-so steps quarter file g
+
+-- exactly these are read, whatever the room, and these are their hits
+abbrev pub Files-exactly : Type 0
+Files-exactly =
+    (steps quarter : ℕ) (file : List ℕ) (hs : List Hit)
+    → ((chunks steps quarter file >>= (λ g. hits g file)) ≡ ok hs) ↔ Within-rules steps quarter file hs
+
+-- the offset that 14 has behind the heading: whole events up to it, and none there; or the end of the track, and then the byte there
+abbrev pub Offset-right : Type 0
+Offset-right =
+    (g : Grid) (file : List ℕ) (i : ℕ) → 22 ≤ length file → hits g file ≡ refuse (midi-file i)
+    → (i ≤ length file) × (No-event-at file i ⊎ Byte-behind-end file i)
