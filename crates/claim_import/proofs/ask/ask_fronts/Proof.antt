@@ -44,7 +44,7 @@ same-length-2 : tie.Need-same-length-2
 same-length-2 c = search needs
 
 returns : tie.Need-returns
-returns c = search needs
+returns c = c .before .before .before .before .write-then-ask .ensures
 
 pub ask-fronts-spec : {M : Type 1} → statement M
 ask-fronts-spec =
