@@ -16,17 +16,20 @@ use Rattle.common.specs.Elements.{_∈_, Rising}
 use Rattle.segment.specs.Records.{Document}
 use Rattle.segment.specs.Metadata.{document}
 use Rattle.segment.specs.Refusals.{too-large, midi-file}
-use Rattle.segment.specs.Results.{ok}
+use Rattle.segment.specs.Results.{ok, _>>=_}
 use Rattle.segment.specs.Names.{same}
 use Rattle.segment.proofs.Binds.{bind-gives, ok-same}
 use Rattle.segment.proofs.Accepted.{check-gives}
 use Rattle.calls.specs.Given.{Lists, given, laid-flat}
 use Rattle.midi_read.specs.declared.track.Hit.{Hit}
+use Rattle.midi_read.specs.Tracks.{Within-rules}
+use Rattle.midi_read.proofs.Headed.{files-exactly}
 use Rattle.midi_read.specs.Files.{Grid, grid, step-of, bar-of, position-of, division-fits, header-start, header, heading, chunks, hits}
 use Rattle.midi_bars.specs.Bars.{rising-from, name-of, bar-count, sounds-of, term-of, given-of, lists-of}
 use Rattle.midi_bars.specs.Imports.{import-file}
-use Rattle.midi_bars.specs.Words.{division, note-ons, Plays}
-use Rattle.midi_bars.specs.Claims.{Hits-fine, Struck, Listed, Up-to-a-hit, Holds-file, File-held, Import-accepted, Division-exactly}
+use Rattle.midi_bars.specs.Words.{division, Plays}
+use Rattle.midi_bars.specs.Claims.{Hits-fine, Struck, Listed, Up-to-a-hit, Holds-file, Read-exactly, File-held, Import-accepted}
+use Rattle.midi_bars.specs.Claims.{Division-exactly}
 use Rattle.midi_bars.proofs.Shaped.{ends-count}
 use Rattle.midi_bars.proofs.Named.{name-one}
 use Rattle.midi_bars.proofs.Struck.{hits-held, stands-for}
@@ -131,11 +134,13 @@ module _ (steps quarter : ℕ) (file : List ℕ) (hs : List Hit) where
     unfolding lists-of laid-flat
     rising-so = rw (stands-for own-grid hs) at (accepted own-grid hs fine .documents-rise)
 
-    lengths-so : (d : Document) → d ∈ given (lists-of own-grid hs) .documents → d .len ≡ steps
-    unfolding given-of
-    lengths-so d m =
-        let (b, _, e) = map-gives (λ b. document b steps) (rising-from 0 (bar-count own-grid hs)) d (rw (stands-for own-grid hs) at m) in
-        ap (λ (d : Document). d .len) e
+    lengths-so : (n : ℕ) → n ∈ lists-of own-grid hs .lengths → n ≡ steps
+    unfolding lists-of laid-flat given-of
+    lengths-so n m =
+        let ds = map (λ b. document b steps) (rising-from 0 (bar-count own-grid hs)) in
+        let (d, k, is) = map-gives (λ (d : Document). d .len) ds n m in
+        let (b, _, e) = map-gives (λ b. document b steps) (rising-from 0 (bar-count own-grid hs)) d k in
+        is ∙ ap (λ (d : Document). d .len) e
 
     held : Holds-file steps quarter file hs (lists-of own-grid hs)
     held = record {
@@ -144,6 +149,7 @@ module _ (steps quarter : ℕ) (file : List ℕ) (hs : List Hit) where
       bars = bars-so;
       rising = rising-so;
       lengths = lengths-so;
+      fine = accepted own-grid hs fine;
     }
 
 -- ---- a file that is read
@@ -165,14 +171,29 @@ module _ (steps quarter : ℕ) (file : List ℕ) (g : Grid) (hs : List Hit) (c :
       subst (λ (m : Lists). Holds-file steps quarter file hs m) is
       (rw so (held steps quarter file hs (rw so at (read-fine steps quarter file g hs one c h))))
 
-  their-hits : note-ons steps quarter file ≡ ok hs
-  unfolding note-ons
-  their-hits = rw (c, h)
+  their-hits : Within-rules steps quarter file hs
+  their-hits = files-exactly steps quarter file hs .0 (rw (c, h))
 
 pub file-held : File-held
 file-held steps quarter file l one read =
     let (g, hs, c, h, is) = came-from steps quarter file l read in
     (hs, their-hits steps quarter file g hs c h, held-by steps quarter file g hs c h l is one)
+
+read-so : (steps quarter : ℕ) (file : List ℕ) (g : Grid) (hs : List Hit) → chunks steps quarter file ≡ ok g → hits g file ≡ ok hs
+    → import-file steps quarter file ≡ ok (lists-of g hs)
+unfolding import-file
+read-so steps quarter file g hs c h = rw (c, h)
+
+pub read-exactly : Read-exactly
+read-exactly steps quarter file = (to, from)
+  where
+    to : (l : Lists) × (import-file steps quarter file ≡ ok l) → (hs : List Hit) × Within-rules steps quarter file hs
+    to (l, read) = let (g, hs, c, h, _) = came-from steps quarter file l read in (hs, their-hits steps quarter file g hs c h)
+
+    from : (hs : List Hit) × Within-rules steps quarter file hs → (l : Lists) × (import-file steps quarter file ≡ ok l)
+    from (hs, w) =
+        let (g, c, h) = bind-gives (chunks steps quarter file) (λ g. hits g file) (files-exactly steps quarter file hs .1 w) in
+        (lists-of g hs, read-so steps quarter file g hs c h)
 
 pub import-accepted : Import-accepted
 import-accepted steps quarter file l one read =

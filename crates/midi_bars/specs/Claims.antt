@@ -7,15 +7,16 @@ use mathlib.Core.Logic.{_↔_}
 use lib.ListN.{length}
 use Rattle.common.specs.Elements.{_∈_, Rising}
 use Rattle.segment.specs.Results.{ok}
-use Rattle.segment.specs.Records.{Document, Given, Term, Posting}
+use Rattle.segment.specs.Records.{Given, Term, Posting}
 use Rattle.calls.specs.Given.{Lists, given}
 use Rattle.calls.specs.Acceptance.{Lists-fine}
 use Rattle.midi_read.specs.declared.track.Hit.{Hit}
 use Rattle.midi_read.specs.Files.{Grid, bar-of, position-of, division-fits, chunks, hits}
+use Rattle.midi_read.specs.Tracks.{Within-rules}
 use Rattle.midi_read.specs.Claims.{Audible}
 use Rattle.midi_bars.specs.Bars.{name-of, given-of, lists-of}
 use Rattle.midi_bars.specs.Imports.{import-file}
-use Rattle.midi_bars.specs.Words.{note-ons, Plays}
+use Rattle.midi_bars.specs.Words.{Plays}
 
 -- hits as a file has them
 pub record Hits-fine (g : Grid) (hs : List Hit) : Type 0 where
@@ -89,13 +90,21 @@ pub record Holds-file (steps quarter : ℕ) (file : List ℕ) (hs : List Hit) (l
   -- every bar from 0 to the last with a hit is made, in rising order, each of this length
   pub bars : (bar : ℕ) → (bar ∈ l .ids) ↔ Up-to-a-hit steps quarter file hs bar
   pub rising : Rising (l .ids)
-  pub lengths : (d : Document) → d ∈ given l .documents → d .len ≡ steps
+  pub lengths : (n : ℕ) → n ∈ l .lengths → n ≡ steps
+  -- the writer, given room, accepts them: the lists fit together, and names, bars and positions rise, so equal hits count once
+  pub fine : Lists-fine l
+
+-- a file is read exactly when it is within document 02's rules, which crate midi_read has in words
+abbrev pub Read-exactly : Type 0
+Read-exactly =
+    (steps quarter : ℕ) (file : List ℕ)
+    → ((l : Lists) × (import-file steps quarter file ≡ ok l)) ↔ ((hs : List Hit) × Within-rules steps quarter file hs)
 
 -- of every file that is read, whatever the two numbers
 abbrev pub File-held : Type 0
 File-held =
     (steps quarter : ℕ) (file : List ℕ) (l : Lists) → 1 ≤ steps → import-file steps quarter file ≡ ok l
-    → (hs : List Hit) × (note-ons steps quarter file ≡ ok hs) × Holds-file steps quarter file hs l
+    → (hs : List Hit) × Within-rules steps quarter file hs × Holds-file steps quarter file hs l
 
 -- the writer, given room, accepts what is read
 abbrev pub Import-accepted : Type 0

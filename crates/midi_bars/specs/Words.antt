@@ -1,21 +1,17 @@
--- What a MIDI file plays, in the customer's words; Claims.antt says that the lists have exactly this.
+-- What a MIDI file plays, in the customer's words; Claims.antt says that the lists have exactly this. `hs` are the file's note-ons with
+-- velocity above 0: crate midi_read says in words which files have which (specs/Tracks.antt, `Within-rules`).
 use Prim.Native.Nat.{ℕ, _+_, _*_, _/_, _<_}
 use mathlib.Core.Path.{_≡_}
 use mathlib.Core.List.{List, [], _∷_}
 use lib.ListN.{length, getD}
 use Rattle.common.specs.Elements.{_∈_}
-use Rattle.segment.specs.Results.{Result, _>>=_}
 use Rattle.midi_read.specs.declared.track.Hit.{Hit}
-use Rattle.midi_read.specs.Files.{big-field, chunks, hits}
+use Rattle.midi_read.specs.Files.{big-field}
 use Rattle.midi_bars.specs.Bars.{name-of}
 
 -- ticks to a quarter, the last two bytes of the header
 abbrev pub division : (file : List ℕ) → ℕ
 division file = big-field 2 12 file
-
--- the file's note-ons with velocity above 0, in file order, or its refusal
-unfoldable pub note-ons : (steps quarter : ℕ) (file : List ℕ) → Result (List Hit)
-note-ons steps quarter file = chunks steps quarter file >>= (λ g. hits g file)
 
 -- one of them is of this note, and its tick, divided by a quarter of the division (where a quarter has four steps) and rounded down, is
 -- this step
