@@ -1,13 +1,13 @@
 -- What the importer leaves: the lists at the fronts of the eight buffers.
 -- Assumes nothing.
-use mathlib.Core.Path.{_≡_, refl, sym, _∙_}
+use mathlib.Core.Path.{_≡_, refl, sym, subst, _∙_}
 use mathlib.Core.List.{List}
 use Prim.Native.Nat.{ℕ, _≤_}
 use native.Mathlib.Omega.{arith}
 use lib.ListN.{length, take, drop, length-append}
 use lib.Seq.{take-at}
 use Rattle.segment.specs.Results.{ok}
-use Rattle.segment.proofs.Binds.{bind-gives}
+use Rattle.segment.proofs.Binds.{bind-gives, ok-same}
 use Rattle.calls.specs.Given.{Lists}
 use Rattle.calls.specs.Replies.{fronted}
 use Rattle.midi_bars.specs.Imports.{import-file, roomy-all, import-into, import-left}
@@ -29,6 +29,13 @@ read-by steps quarter file b l f =
     let (m, e, f₁) = bind-gives (import-file steps quarter file) _ f in
     let (_, _, f₂) = bind-gives (roomy-all m b) _ f₁ in
     e ∙ f₂
+
+pub room-by : (steps quarter : ℕ) (file : List ℕ) (b l : Lists) → import-into steps quarter file b ≡ ok l → roomy-all l b ≡ ok tt
+unfolding import-into
+room-by steps quarter file b l f =
+    let (m, e, f₁) = bind-gives (import-file steps quarter file) _ f in
+    let (u, room, f₂) = bind-gives (roomy-all m b) _ f₁ in
+    subst (λ q. roomy-all q b ≡ ok tt) (ok-same f₂) room
 
 pub read-into : (steps quarter : ℕ) (file : List ℕ) (b l : Lists) → import-file steps quarter file ≡ ok l → roomy-all l b ≡ ok tt
     → import-into steps quarter file b ≡ ok l

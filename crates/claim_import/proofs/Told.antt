@@ -15,20 +15,23 @@ use Rattle.segment.proofs.Binds.{refuse-ok, ok-same}
 use Rattle.segment.proofs.Shapes.{names-count}
 use Rattle.calls.specs.Given.{Lists}
 use Rattle.midi_read.specs.declared.track.Hit.{Hit}
-use Rattle.midi_bars.specs.Imports.{import-into, import-answer, import-left}
-use Rattle.midi_bars.specs.Words.{note-ons}
-use Rattle.midi_bars.proofs.Words.{file-held, import-accepted}
+use Rattle.midi_bars.specs.Imports.{import-file, roomy-all, import-into, import-answer, import-left}
+use Rattle.midi_read.specs.Tracks.{Within-rules}
+use Rattle.midi_bars.specs.Claims.{Holds-file}
+use Rattle.midi_bars.proofs.Words.{file-held, import-accepted, read-exactly}
 use Rattle.midi_import.specs.Promise.{Bars-imported}
 use Rattle.claim_joint.specs.declared.ask.Asked.{Asked}
 use Rattle.claim_joint.specs.declared.ask.Asked.the-variants as asked
 use Rattle.claim_joint.specs.declared.ask.Question.the-variants as question
 use Rattle.claim_joint.specs.Promise.{Written-then-asked}
+use Rattle.claim_import.specs.declared.ask.ImportAsked.{ImportAsked}
 use Rattle.claim_import.specs.declared.ask.ImportAsked.the-variants as reply
-use Rattle.claim_import.specs.Phrases.{Without-refusal, Bars-listed}
+use Rattle.claim_import.specs.Phrases.{Without-refusal, Bars-listed, Room-for-lists, Imported-exactly}
+use Rattle.claim_import.specs.Claims.{Fronts-held}
 use Rattle.claim_import.specs.Promise.{totals-of, Imported-then-asked}
 use Rattle.claim_import.specs.Steps.{fronts, Has-fronts}
 use Rattle.claim_import.proofs.Notes.{bars-agree}
-use Rattle.claim_import.proofs.Fronts.{read-by, read-into, fronts-are, has-fronts}
+use Rattle.claim_import.proofs.Fronts.{read-by, room-by, read-into, fronts-are, has-fronts}
 
 -- ---- what the importer's reply says of the definition's answer
 
@@ -48,12 +51,31 @@ refused-if (refuse y) e = cc
 same-refusal : {x y : Refusal} → _≡_ {A = Result Lists} (refuse x) (refuse y) → x ≡ y
 same-refusal e = cc
 
+-- ---- imported exactly when the file is within the rules and its lists fit
+
+module _ (steps quarter : ℕ) (file : List ℕ) (b : Lists) where
+  accepts-so : {l : Lists} {t : ListTotals} {a : Asked} → import-into steps quarter file b ≡ ok l
+      → Imported-exactly steps quarter file b (reply.Asked t a)
+  accepts-so {l} {t} {a} read = (
+    λ _. (read-exactly steps quarter file .0 (l, read-by steps quarter file b l read), λ m e.
+        let same : l ≡ m = ok-same (sym (read-by steps quarter file b l read) ∙ e) in
+        subst (λ q. roomy-all q b ≡ ok tt) same (room-by steps quarter file b l read)),
+    λ _. (t, a, refl),
+  )
+
+  refuses-so : {x : Refusal} → import-into steps quarter file b ≡ refuse x → Imported-exactly steps quarter file b (reply.NotImported x)
+  refuses-so {x} is = (
+    λ (t, a, e). let z : _≡_ {A = ℕ} 0 1 = cc in absurd (omega arith),
+    λ (within, room). let (l, e) = read-exactly steps quarter file .1 within in
+        refuse-ok (sym is ∙ read-into steps quarter file b l e (room l e)),
+  )
+
 -- ---- the claim, where the lists are written and asked
 
 module _ (steps quarter : ℕ) (file : List ℕ) (b : Lists) (out name ends found : List ℕ) (one : 1 ≤ steps) {l : Lists} {a : Asked}
     {out′ found′ : List ℕ} (w : Written-then-asked l out question.Phrase name ends name found a out′ found′) where
   bars-told : (t : ListTotals) → Without-refusal steps quarter file b out name ends l
-      → (hs : List Hit) × (note-ons steps quarter file ≡ ok hs)
+      → (hs : List Hit) × Within-rules steps quarter file hs
       × Bars-listed steps quarter file hs (names 0 ends name) found (reply.Asked t a) found′
   bars-told t good =
       let (hs, e, held) = file-held steps quarter file l one (good .read) in
@@ -76,6 +98,7 @@ module _ (steps quarter : ℕ) (file : List ℕ) (b : Lists) (out name ends foun
   promised : import-into steps quarter file b ≡ ok l
       → Imported-then-asked steps quarter file b out name ends found (reply.Asked (totals-of l) a) (import-left (ok l) b) out′ found′
   promised read = record {
+    accepts = accepts-so steps quarter file b read;
     claim = λ m good.
         let same : m ≡ l = ok-same (sym (read-into steps quarter file b m (good .read) (good .room)) ∙ read) in
         bars-told (totals-of l) (subst (λ q. Without-refusal steps quarter file b out name ends q) same good);
@@ -119,7 +142,18 @@ module _ (steps quarter : ℕ) (file : List ℕ) (b : Lists) (one : 1 ≤ steps)
     refused-promise e =
         let is = refused-if (import-into steps quarter file b) (sym e ∙ told .reply) in
         record {
+          accepts = refuses-so steps quarter file b is;
           claim = λ l good. refuse-ok (sym is ∙ read-into steps quarter file b l (good .read) (good .room));
           refused = λ y f. (ap reply.NotImported (same-refusal (sym is ∙ f)), told .left ∙ ap (λ q. import-left q b) is, refl, refl);
           imported = λ l f. refuse-ok (sym is ∙ f);
         }
+
+-- ---- the lists that the call fills
+
+pub fronts-held : Fronts-held
+fronts-held steps quarter file b b′ t one told =
+    by-reply (λ t q. (hs : List Hit) × Within-rules steps quarter file hs × Holds-file steps quarter file hs (fronts t q))
+    (import-into steps quarter file b) b (λ l read.
+    let e = read-by steps quarter file b l read in
+    subst (λ m. (hs : List Hit) × Within-rules steps quarter file hs × Holds-file steps quarter file hs m)
+    (sym (fronts-are steps quarter file b l one e)) (file-held steps quarter file l one e)) (told .reply) (told .left)

@@ -1,8 +1,9 @@
--- Document 02, wish 2: a phrase put to an imported and written file lists exactly the bars in which the file's own notes meet it. Nothing
--- here names what the importer, the writer or the search computes: only that the file is read, the room, and what the file plays, in words.
+-- Document 02, wish 2: a phrase put to an imported and written file lists exactly the bars in which the file's own notes meet it. Of what
+-- is computed only the lists are named, and only for the room that they take: which files are read, and what a file plays, are in words.
 use Prim.Native.Nat.{ℕ, _≤_}
 use mathlib.Core.Path.{_≡_}
 use mathlib.Core.List.{List, _++_}
+use mathlib.Core.Logic.{_↔_}
 use lib.ListN.{length, drop}
 use Rattle.common.specs.Elements.{_∈_, Rising}
 use Rattle.segment.specs.Results.{ok}
@@ -14,7 +15,9 @@ use Rattle.calls.specs.Given.{Lists}
 use Rattle.calls.specs.Sizes.{segment-size}
 use Rattle.midi_read.specs.declared.track.Hit.{Hit}
 use Rattle.midi_bars.specs.Imports.{import-file, roomy-all}
-use Rattle.midi_bars.specs.Words.{note-ons, Plays-phrase}
+use Rattle.midi_read.specs.Tracks.{Within-rules}
+use Rattle.midi_bars.specs.Words.{Plays-phrase}
+use Rattle.claim_joint.specs.declared.ask.Asked.{Asked}
 use Rattle.claim_joint.specs.declared.ask.Asked.the-variants as asked
 use Rattle.claim_joint.specs.Demand.{Proper-text}
 use Rattle.claim_import.specs.declared.ask.ImportAsked.{ImportAsked}
@@ -34,6 +37,19 @@ pub record Without-refusal (steps quarter : ℕ) (file : List ℕ) (b : Lists) (
   pub room-to-write : segment-size l ≤ length out
   pub proper : Proper-text Phrase name ends
 
+-- imported, written or not, and asked
+abbrev pub Was-imported : ImportAsked → Type 0
+Was-imported r = (t : ListTotals) × (a : Asked) × (r ≡ reply.Asked t a)
+
+-- the lists of the file, where it is read, fit the buffers
+abbrev pub Room-for-lists : (steps quarter : ℕ) (file : List ℕ) (b : Lists) → Type 0
+Room-for-lists steps quarter file b = (l : Lists) → import-file steps quarter file ≡ ok l → roomy-all l b ≡ ok tt
+
+-- imported exactly when the file is within document 02's rules and its lists fit
+abbrev pub Imported-exactly : (steps quarter : ℕ) (file : List ℕ) (b : Lists) → ImportAsked → Type 0
+Imported-exactly steps quarter file b r =
+    Was-imported r ↔ (((hs : List Hit) × Within-rules steps quarter file hs) × Room-for-lists steps quarter file b)
+
 -- the search answers how many there are
 abbrev pub Answers : ImportAsked → (how-many : ℕ) → Type 0
 Answers r k = (t : ListTotals) × (n : ℕ) × (r ≡ reply.Asked t (asked.Answer n (counted.Count k)))
@@ -50,4 +66,4 @@ abbrev pub Phrase-answered : (steps quarter : ℕ) (file : List ℕ) (b : Lists)
     → ImportAsked → (found′ : List ℕ) → Type 0
 Phrase-answered steps quarter file b out name ends found r found′ =
     (l : Lists) → Without-refusal steps quarter file b out name ends l
-    → (hs : List Hit) × (note-ons steps quarter file ≡ ok hs) × Bars-listed steps quarter file hs (names 0 ends name) found r found′
+    → (hs : List Hit) × Within-rules steps quarter file hs × Bars-listed steps quarter file hs (names 0 ends name) found r found′

@@ -14,7 +14,7 @@ use Rattle.claim_joint.specs.declared.ask.Question.the-variants as question
 use Rattle.claim_joint.specs.Promise.{Written-then-asked}
 use Rattle.claim_import.specs.declared.ask.ImportAsked.{ImportAsked}
 use Rattle.claim_import.specs.declared.ask.ImportAsked.the-variants as reply
-use Rattle.claim_import.specs.Phrases.{Phrase-answered}
+use Rattle.claim_import.specs.Phrases.{Imported-exactly, Phrase-answered}
 
 -- how many documents (bars), terms (sounds), postings and positions
 abbrev pub totals-of : Lists → ListTotals
@@ -28,6 +28,8 @@ totals-of l = record {
 -- `b` are the eight lent buffers, `name` and `ends` the names of the phrase in one text with its ends
 pub record Imported-then-asked (steps quarter : ℕ) (file : List ℕ) (b : Lists) (out name ends found : List ℕ)
     (r : ImportAsked) (b′ : Lists) (out′ found′ : List ℕ) : Type 0 where
+  -- a file within the rules, and no other, is imported where its lists fit
+  pub accepts : Imported-exactly steps quarter file b r
   -- with room, a proper phrase lists exactly the bars in which the file's own notes meet it
   pub claim : Phrase-answered steps quarter file b out name ends found r found′
   -- the importer's refusal is handed on, nothing is written or asked, and no lent place is changed
