@@ -80,7 +80,8 @@ enum {
 
     /* Caused by the MIDI file. */
     PSTP_MIDI_FILE = 14,  /* a file outside the rules of pstp_midi_bars (index: 0 for the header, 14 for the track's heading, otherwise
-                             the offset of the event) */
+                             an offset: of the wrong event's delta time, of the first byte after the end of track, or the file's length
+                             where that end is missing) */
     PSTP_BAR_TOO_FAR = 15 /* a hit beyond bar 65,535 */
 };
 
@@ -249,8 +250,8 @@ pstp_reply pstp_write_positional_segment_records(pstp_document_length *documents
  *  File          "MThd", length 6, format 0, one track, and the division: ticks to a quarter note, 4 to 32,764, a multiple of 4. Then
  *                "MTrk" and the length of the rest of the file. Then events up to the first end of track, FF 2F 00, which ends the file.
  *  Event         a delta time, then a channel message, whose status may be left out where the event before it has the same (running
- *                status); or a meta event (FF) or an exclusive one (F0, F7), skipped by its length, whatever is in it. A number has at
- *                most 4 bytes; long forms are read.
+ *                status); or a meta event (FF) or an exclusive one (F0, F7), skipped by its length, whatever is in it. A delta
+ *                time or a length has 1 to 4 bytes; long forms are read.
  *  Hit           a note-on with a velocity above 0, on any channel
  *  Sound         "n" and the note as three decimal digits: n000 to n127
  *  Step          the hit's tick, that is all delta times up to it added up, divided by a quarter of the division, rounded down
@@ -267,7 +268,9 @@ pstp_reply pstp_write_positional_segment_records(pstp_document_length *documents
  *  position_counts third       n       for each of them the number of its steps that have the sound
  *  positions       fourth      n       these steps, increasing, of the first posting, then of the next; equal hits on a step count once
  *
- * n is file_len / 3: a hit takes 3 bytes of the file or more. No file has more than 5,592,396 hits.
+ * n is file_len / 3: a hit takes 3 bytes of the file or more. No file has more than 5,592,396 hits. To lend less: with ids to
+ * posting_counts as above and the other three empty, 13/6 has third in its index; with posting_ids and position_counts that long, 13/8 has
+ * fourth.
  *
  * Refusals: 12 (over PSTP_LIMIT bytes); 14 with index 0 (header); 14 with index 14 (the track's heading); for each event, in the order of
  * the file, 14 with the offset of its delta time, or 15; where the file ends without an end of track, 14 with file_len, and where a byte

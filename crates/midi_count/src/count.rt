@@ -29,7 +29,8 @@ pub fn is_fresh(last: u64, step: u64) -> u64
     1
 }
 
-// 1 for a step in a bar that is not the one of the sound's last step. The step's bar is handed in, so that nothing is divided.
+// 1 for a step in a bar that is not the one of the sound's last step. The step's bar is handed in, so that nothing is divided; the step
+// itself serves the contract.
 pub fn does_open(last: u64, step: u64, bar: u64, steps: u64) -> u64
     requires { ⌜ In-bar step bar steps ⌝ }
     ensures { λ r. ⌜ r ≡ opens last step steps ⌝ }

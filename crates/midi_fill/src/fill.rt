@@ -90,6 +90,7 @@ pub fn fill(
             Stepped::Sounds(h, next) => {
                 let step = h.tick / ticks;
                 let bar = step / steps;
+                // Not reached: the count refused such a file.
                 if 65535 < bar {
                     return;
                 }
@@ -117,6 +118,7 @@ pub fn fill(
             Stepped::Ends(_) => {
                 return;
             }
+            // Not reached: the count refused such a file.
             Stepped::Refused(_) => {
                 return;
             }

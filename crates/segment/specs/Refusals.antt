@@ -71,7 +71,8 @@ no-room b n = refusal 13 b n
 
 -- ---- kinds, caused by whoever made the MIDI file (document 02)
 
--- outside the rules: 0 for the header, 14 for the track's heading, else the offset of the event's delta time
+-- outside the rules: 0 for the header, 14 for the track's heading; else an offset: of the wrong event's delta time, of the first byte after
+-- the end of the track, or the file's length where that end is missing
 abbrev pub midi-file : (index : ℕ) → Refusal
 midi-file i = refusal 14 0 i
 

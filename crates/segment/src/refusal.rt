@@ -246,8 +246,7 @@ pub fn no_room(buffer: u32, needed: usize) -> Refusal
     }
 }
 
-// Kind 14: a MIDI file outside document 02's rules. The index is 0 for the header, 14 for the track's heading, else the offset of the event's
-// delta time.
+// Kind 14: a MIDI file outside document 02's rules. The index is 0 for the header, 14 for the track's heading, else an offset.
 pub fn midi_file(index: usize) -> Refusal
     ensures { λ r. ⌜ r ≡ midi-file index ⌝ }
 {
