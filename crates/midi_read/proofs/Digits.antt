@@ -3,12 +3,12 @@
 use mathlib.Core.Path.{_≡_, refl, sym, ap, _∙_}
 use mathlib.Core.Bool.{Bool, true, false, cond}
 use mathlib.Core.List.{List, [], _∷_, _++_}
-use mathlib.Core.Option.{Option, none, some}
+use mathlib.Core.Option.{none, some}
 use mathlib.Core.Logic.{_⊎_, inl, inr}
 use Prim.Native.Nat.{ℕ, zero, suc, _+_, _*_, _%_, _≤_, _<_}
 use native.Mathlib.Omega.{arith}
 use lib.Dec.{ltb}
-use lib.ListN.{length, drop, getD, length-append}
+use lib.ListN.{length, drop, getD}
 use lib.Seq.{drop-drop, drop-append-seam, append-snoc}
 use borrow.Author.Tests.{ltb-true, ltb-false}
 use Rattle.common.specs.Elements.{_∈_}
@@ -62,9 +62,12 @@ digits (suc n) v file at r e =
     step (ltb at (length file)) (ltb (getD file at 0) 128) refl refl e (digits n (v * 128 + getD file at 0 % 128) file (at + 1) r)
   where
     step : (i l : Bool) → ltb at (length file) ≡ i → ltb (getD file at 0) 128 ≡ l
-        → cond i (cond l (some (numbered (v * 128 + getD file at 0) (at + 1))) (number-from n (v * 128 + getD file at 0 % 128) file (at + 1))) none
+        → cond i
+        (cond l (some (numbered (v * 128 + getD file at 0) (at + 1))) (number-from n (v * 128 + getD file at 0 % 128) file (at + 1)))
+        none
         ≡ some r
-        → (number-from n (v * 128 + getD file at 0 % 128) file (at + 1) ≡ some r → Digits n (v * 128 + getD file at 0 % 128) file (at + 1) r)
+        → (number-from n (v * 128 + getD file at 0 % 128) file (at + 1) ≡ some r
+        → Digits n (v * 128 + getD file at 0 % 128) file (at + 1) r)
         → Digits (suc n) v file at r
     step true true i l e ih =
         let is : numbered (v * 128 + getD file at 0) (at + 1) ≡ r = cc in
@@ -136,8 +139,8 @@ reads (b ∷ high) (suc n) v file at low rest few above below e =
     ∙ ap (λ x. some (numbered (base-128 x (high ++ (low ∷ []))) (at + 1 + length (high ++ (low ∷ []))))) value-is
     ∙ ap (λ k. some (numbered (base-128 (v * 128 + b % 128) (high ++ (low ∷ []))) k)) next-is
 
-pub number-read : (file : List ℕ) (at : ℕ) (bytes : List ℕ) (value : ℕ) (rest : List ℕ) → Is-number bytes value → drop at file ≡ bytes ++ rest
-    → number-from 4 0 file at ≡ some (numbered value (at + length bytes))
+pub number-read : (file : List ℕ) (at : ℕ) (bytes : List ℕ) (value : ℕ) (rest : List ℕ) → Is-number bytes value
+    → drop at file ≡ bytes ++ rest → number-from 4 0 file at ≡ some (numbered value (at + length bytes))
 number-read file at bytes value rest is e =
     let f : drop at file ≡ is .high ++ (is .last ∷ rest) =
     e ∙ ap (λ (l : List ℕ). l ++ rest) (is .bytes-are) ∙ append-snoc (is .high) (is .last) rest in

@@ -1,10 +1,9 @@
--- Header and heading in words, and as they are read: the same.
+-- Header and heading in words, and as they are read: the same. With the track, so is the whole file.
 -- Assumes nothing.
 use mathlib.Core.Path.{_≡_, refl, sym, ap, _∙_}
-use mathlib.Core.Bool.{Bool, true, false, cond, _&&_}
-use mathlib.Core.List.{List, [], _∷_, _++_}
-use mathlib.Core.Logic.{_↔_}
-use Prim.Native.Nat.{ℕ, zero, suc, _+_, _-_, _*_, _/_, _%_, _≤_, _<_}
+use mathlib.Core.Bool.{true, _&&_}
+use mathlib.Core.List.{List, _∷_, _++_}
+use Prim.Native.Nat.{ℕ, _+_, _*_, _/_, _%_, _≤_}
 use native.Mathlib.Omega.{arith}
 use lib.Dec.{ltb, leb, eqb}
 use lib.ListN.{length, take, drop, getD, take-append-drop, length-drop}
@@ -13,20 +12,17 @@ use borrow.Author.Tests.{ltb-true, leb-true, eqb-true, lt-ltb, le-leb, eq-eqb}
 use Rattle.common.proofs.Loops.{drop-step, and-left, and-right}
 use Rattle.segment.specs.Names.{same}
 use Rattle.segment.specs.Refusals.{too-large, midi-file}
-use Rattle.segment.specs.Results.{Result, ok, refuse, _>>=_, check}
+use Rattle.segment.specs.Results.{ok, _>>=_}
 use Rattle.segment.proofs.Binds.{bind-gives, ok-same}
 use Rattle.segment.proofs.Accepted.{check-gives}
+use Rattle.segment.proofs.Inversions.{last-gives}
 use Rattle.segment.proofs.Strings.{same-is, same-refl}
-use Rattle.common.specs.Elements.{_∈_}
 use Rattle.midi_read.specs.declared.track.Hit.{Hit}
-use Rattle.midi_read.specs.Files.{Grid, grid, big-endian, big-field, header-start, heading-start, division-fits, header, heading, chunks, hits}
-use Rattle.midi_read.specs.Tracks.{Is-track, Is-file, Plays-so, Chunks-so, Within-rules}
+use Rattle.midi_read.specs.Files.{Grid, grid, big-endian, big-field, header-start, heading-start, division-fits, header, heading}
+use Rattle.midi_read.specs.Files.{chunks, hits}
+use Rattle.midi_read.specs.Tracks.{Is-file, Chunks-so, Within-rules}
 use Rattle.midi_read.specs.Claims.{Chunks-exactly, Files-exactly}
 use Rattle.midi_read.proofs.Tracks.{tracks-exactly}
-
-check-passed : (t : Bool) {a : Unit {0}} → check t (midi-file 14) ≡ ok a → t ≡ true
-check-passed true e = refl
-check-passed false e = let z : _≡_ {A = ℕ} 0 1 = cc in absurd (omega arith)
 
 -- two and four bytes from an offset on
 two-at : (file : List ℕ) (at : ℕ) → at + 2 ≤ length file → drop at file ≡ getD file at 0 ∷ getD file (at + 1) 0 ∷ drop (at + 2) file
@@ -95,7 +91,7 @@ module _ (steps quarter : ℕ) (file : List ℕ) where
       let (c, h₃) = check-gives (division-fits quarter (big-field 2 12 file)) (midi-file 0) _ h₂ in
       let (d, k₁) = check-gives (leb 22 (length file)) (midi-file 14) _ k in
       let (e, k₂) = check-gives (same (take 4 (drop 14 file)) heading-start) (midi-file 14) _ k₁ in
-      let l = eqb-true _ _ (check-passed (eqb (22 + big-field 4 18 file) (length file)) k₂) in
+      let l = eqb-true _ _ (last-gives (eqb (22 + big-field 4 18 file) (length file)) (midi-file 14) k₂) in
       record {
         division = big-field 2 12 file;
         track = drop 22 file;
@@ -109,7 +105,8 @@ module _ (quarter division : ℕ) (track : List ℕ) (d₁ d₀ s₃ s₂ s₁ s
   abbrev F : List ℕ
   F = 0x4D ∷ 0x54 ∷ 0x68 ∷ 0x64 ∷ 0 ∷ 0 ∷ 0 ∷ 6 ∷ 0 ∷ 0 ∷ 0 ∷ 1 ∷ d₁ ∷ d₀ ∷ 0x4D ∷ 0x54 ∷ 0x72 ∷ 0x6B ∷ s₃ ∷ s₂ ∷ s₁ ∷ s₀ ∷ track
 
-  header-read : division ≡ d₁ * 256 + d₀ → 1 ≤ division → division ≤ 32767 → division % quarter ≡ 0 → header quarter F ≡ ok (division / quarter)
+  header-read : division ≡ d₁ * 256 + d₀ → 1 ≤ division → division ≤ 32767 → division % quarter ≡ 0
+      → header quarter F ≡ ok (division / quarter)
   unfolding header
   header-read is some most multiple =
       let field : big-field 2 12 F ≡ division = omega arith in

@@ -1,52 +1,28 @@
--- An event in words, read.
+-- An event in words is read as what it says.
 -- Assumes nothing.
 use mathlib.Core.Path.{_≡_, refl, sym, ap, _∙_}
-use mathlib.Core.Bool.{Bool, true, false, cond, _&&_, _||_}
-use mathlib.Core.List.{List, [], _∷_, _++_}
-use mathlib.Core.Option.{Option, none, some}
+use mathlib.Core.Bool.{true, false, cond}
+use mathlib.Core.List.{List, [], _∷_, _++_, append-assoc}
 use mathlib.Core.Logic.{_⊎_, inl, inr}
-use Prim.Native.Nat.{ℕ, zero, suc, _+_, _-_, _*_, _/_, _%_, _≤_, _<_}
+use Prim.Native.Nat.{ℕ, suc, _+_, _≤_, _<_}
 use native.Mathlib.Omega.{arith}
-use lib.Dec.{ltb, leb, eqb}
-use lib.ListN.{length, take, drop, getD, length-append, length-drop}
-use borrow.Author.Tests.{lt-ltb, le-ltb, le-leb, lt-leb, eq-eqb, ne-eqb}
+use lib.ListN.{length, drop, getD, length-append, length-drop}
+use borrow.Author.Tests.{lt-ltb, le-ltb, le-leb, ne-eqb}
 use Rattle.common.specs.Elements.{_∈_}
-use Rattle.common.proofs.Loops.{lt-or-ge}
-use Rattle.segment.specs.Refusals.{midi-file}
-use Rattle.segment.specs.Results.{Result, ok, refuse, _>>=_, check}
+use Rattle.segment.specs.Results.{ok}
 use Rattle.midi_read.specs.declared.track.Reader.{Reader}
-use Rattle.midi_read.specs.declared.track.Hit.{Hit}
-use Rattle.midi_read.specs.Files.{Number, number-from, found, number, byte, low-byte, Event, sounds, silent, ends, reader, one-data-byte, is-hit, exclusive, two-data-bytes, message, skipped, meta, by-status, read-event}
-use Rattle.midi_read.specs.Tracks.{Is-number, Said, channel, skipped-over, Timed, Channel-message, Skipped-event, Says, running-after, note-on, with-hit}
-use Rattle.midi_read.proofs.Numbers.{numbered}
+use Rattle.midi_read.specs.Files.{byte, low-byte, Event, sounds, silent, ends, reader, one-data-byte, two-data-bytes, message}
+use Rattle.midi_read.specs.Files.{skipped, meta, by-status, read-event}
+use Rattle.midi_read.specs.Tracks.{Is-number, Said, channel, skipped-over, Timed, Channel-message, Says, running-after, note-on}
 use Rattle.midi_read.proofs.Digits.{front, behind, number-read}
-use Rattle.midi_read.proofs.Said.{note-on-is, silent-one}
+use Rattle.midi_read.proofs.Statuses.{one-of, two-of, note-on-is, silent-one}
 
 -- the event that is read for what is said
 abbrev pub event-of : (tick : ℕ) → Said → Reader → Event
 event-of tick (channel status values) next =
-    cond (note-on status (getD values 1 0)) (sounds (record { tick = tick; note = getD values 0 0; velocity = getD values 1 0 }) next) (silent next)
+    cond (note-on status (getD values 1 0)) (sounds (record { tick = tick; note = getD values 0 0; velocity = getD values 1 0 }) next)
+    (silent next)
 event-of tick skipped-over next = silent next
-
-one-of : (s : ℕ) → 0xC0 ≤ s → s ≤ 0xDF → one-data-byte s ≡ true
-one-of s a b = cases (lt-or-ge s 0xD0)
-  where
-    cases : (s < 0xD0) ⊎ (0xD0 ≤ s) → one-data-byte s ≡ true
-    cases (inl c) = let e : s / 16 ≡ 12 = omega arith in rw (eq-eqb (s / 16) 12 e)
-    cases (inr c) =
-        let k : s / 16 ≡ 12 → ⊥ = λ e. absurd (omega arith) in
-        let e : s / 16 ≡ 13 = omega arith in
-        rw (ne-eqb (s / 16) 12 k, eq-eqb (s / 16) 13 e)
-
-two-of : (s : ℕ) → (s < 0xC0) ⊎ (0xDF < s) → one-data-byte s ≡ false
-two-of s (inl a) =
-    let k : s / 16 ≡ 12 → ⊥ = λ e. absurd (omega arith) in
-    let l : s / 16 ≡ 13 → ⊥ = λ e. absurd (omega arith) in
-    rw (ne-eqb (s / 16) 12 k, ne-eqb (s / 16) 13 l)
-two-of s (inr a) =
-    let k : s / 16 ≡ 12 → ⊥ = λ e. absurd (omega arith) in
-    let l : s / 16 ≡ 13 → ⊥ = λ e. absurd (omega arith) in
-    rw (ne-eqb (s / 16) 12 k, ne-eqb (s / 16) 13 l)
 
 -- ---- bytes
 
@@ -121,7 +97,7 @@ module _ (start : ℕ) (file : List ℕ) where
   unfolding meta
   meta-other at tick type rest l k e = rw (low-read start file at type rest l e, ne-eqb type 0x2F k)
 
-  pub meta-end : (at tick : ℕ) (rest : List ℕ) → drop at file ≡ 0x2F ∷ 0x00 ∷ rest → meta start file at tick ≡ ok (ends (at + 2))
+  meta-end : (at tick : ℕ) (rest : List ℕ) → drop at file ≡ 0x2F ∷ 0x00 ∷ rest → meta start file at tick ≡ ok (ends (at + 2))
   unfolding meta
   meta-end at tick rest e =
       let (_, _, later) = front file at 0x2F (0x00 ∷ rest) e in
@@ -138,7 +114,7 @@ module _ (start : ℕ) (file : List ℕ) (running at tick : ℕ) where
   unfolding by-status
   by-channel b l m = rw (le-ltb b 0x80 l, lt-ltb b 0xF0 (omega arith))
 
-  pub by-meta : by-status start file running at tick 0xFF ≡ meta start file (at + 1) tick
+  by-meta : by-status start file running at tick 0xFF ≡ meta start file (at + 1) tick
   unfolding by-status
   by-meta = refl
 
@@ -156,16 +132,12 @@ singled : (file : List ℕ) (at : ℕ) (b : ℕ) (bytes values rest : List ℕ) 
     → drop at file ≡ b ∷ (values ++ rest)
 singled file at b bytes values rest is e = e ∙ ap (λ (l : List ℕ). l ++ rest) is
 
-regroup : (xs ys zs : List ℕ) → (xs ++ ys) ++ zs ≡ xs ++ (ys ++ zs)
-regroup [] ys zs = refl
-regroup (x ∷ xs) ys zs = ap (λ (l : List ℕ). x ∷ l) (regroup xs ys zs)
-
 -- the byte here, and the event by it
-pub record Read-on (start : ℕ) (file : List ℕ) (running at tick : ℕ) (e : Event) : Type 0 where
-  pub first : ℕ
-  pub rest : List ℕ
-  pub here : drop at file ≡ first ∷ rest
-  pub event : by-status start file running at tick first ≡ ok e
+record Read-on (start : ℕ) (file : List ℕ) (running at tick : ℕ) (e : Event) : Type 0 where
+  first : ℕ
+  rest : List ℕ
+  here : drop at file ≡ first ∷ rest
+  event : by-status start file running at tick first ≡ ok e
 
 module _ (start : ℕ) (file : List ℕ) (running at tick : ℕ) where
   -- a channel message with its status
@@ -188,13 +160,14 @@ module _ (start : ℕ) (file : List ℕ) (running at tick : ℕ) where
       }
 
   -- under the running status
-  without-status : (status : ℕ) (values bytes rest : List ℕ) → Channel-message running status values bytes → running ≡ status → bytes ≡ values
-      → drop at file ≡ bytes ++ rest
+  without-status : (status : ℕ) (values bytes rest : List ℕ) → Channel-message running status values bytes → running ≡ status
+      → bytes ≡ values → drop at file ≡ bytes ++ rest
       → Read-on start file running at tick (event-of tick (channel status values) (reader (at + length bytes) status tick))
   without-status status [] bytes rest c r is e = none-so (c .data-bytes)
     where
       none-so : {P : Type 0}
-          → ((0xC0 ≤ status) × (status ≤ 0xDF) × (length {A = ℕ} [] ≡ 1)) ⊎ (((status < 0xC0) ⊎ (0xDF < status)) × (length {A = ℕ} [] ≡ 2)) → P
+          → ((0xC0 ≤ status) × (status ≤ 0xDF) × (length {A = ℕ} [] ≡ 1))
+          ⊎ (((status < 0xC0) ⊎ (0xDF < status)) × (length {A = ℕ} [] ≡ 2)) → P
       none-so (inl (a, b, z)) = absurd (omega arith)
       none-so (inr (a, z)) = absurd (omega arith)
   without-status status (x ∷ xs) bytes rest c r is e =
@@ -212,12 +185,12 @@ module _ (start : ℕ) (file : List ℕ) (running at tick : ℕ) where
       }
 
   -- skipped
-  skip-f : (b : ℕ) (front-is size body bytes rest : List ℕ) → bytes ≡ b ∷ (size ++ body)
+  skip-f : (b : ℕ) (size body bytes rest : List ℕ) → bytes ≡ b ∷ (size ++ body)
       → by-status start file running at tick b ≡ skipped start file (at + 1) tick → Is-number size (length body)
       → drop at file ≡ bytes ++ rest → Read-on start file running at tick (silent (reader (at + length bytes) 0 tick))
-  skip-f b front-is size body bytes rest is by n e =
+  skip-f b size body bytes rest is by n e =
       let f : drop at file ≡ b ∷ (size ++ (body ++ rest)) =
-      singled file at b bytes (size ++ body) rest is e ∙ ap (λ (l : List ℕ). b ∷ l) (regroup size body rest) in
+      singled file at b bytes (size ++ body) rest is e ∙ ap (λ (l : List ℕ). b ∷ l) (append-assoc size body rest) in
       let (_, _, later) = front file at b (size ++ (body ++ rest)) f in
       let long : length bytes ≡ suc (length (size ++ body)) = ap length is in
       let next-is : at + 1 + length size + length body ≡ at + length bytes = omega (arith, length-append size body) in
@@ -233,7 +206,7 @@ module _ (start : ℕ) (file : List ℕ) (running at tick : ℕ) where
       → drop at file ≡ bytes ++ rest → Read-on start file running at tick (silent (reader (at + length bytes) 0 tick))
   skip-meta type size body bytes rest l k is n e =
       let f : drop at file ≡ 0xFF ∷ type ∷ (size ++ (body ++ rest)) =
-      singled file at 0xFF bytes (type ∷ (size ++ body)) rest is e ∙ ap (λ (l : List ℕ). 0xFF ∷ type ∷ l) (regroup size body rest) in
+      singled file at 0xFF bytes (type ∷ (size ++ body)) rest is e ∙ ap (λ (l : List ℕ). 0xFF ∷ type ∷ l) (append-assoc size body rest) in
       let (_, _, later) = front file at 0xFF (type ∷ (size ++ (body ++ rest))) f in
       let (_, _, latest) = front file (at + 1) type (size ++ (body ++ rest)) later in
       let long : length bytes ≡ suc (suc (length (size ++ body))) = ap length is in
@@ -262,23 +235,28 @@ module _ (start : ℕ) (file : List ℕ) (running at tick : ℕ) where
       headed : (xs : List ℕ) → s .front ≡ xs → bytes ≡ xs ++ (s .size ++ s .body)
       headed xs is = s .bytes-are ∙ ap (λ (l : List ℕ). l ++ (s .size ++ s .body)) is
 
-      step : (s .front ≡ 0xF0 ∷ []) ⊎ ((s .front ≡ 0xF7 ∷ []) ⊎ ((type : ℕ) × (type ≤ 127) × (type ≡ 0x2F → ⊥) × (s .front ≡ 0xFF ∷ type ∷ [])))
+      step : (s .front ≡ 0xF0 ∷ [])
+          ⊎ ((s .front ≡ 0xF7 ∷ []) ⊎ ((type : ℕ) × (type ≤ 127) × (type ≡ 0x2F → ⊥) × (s .front ≡ 0xFF ∷ type ∷ [])))
           → Read-on start file running at tick (silent (reader (at + length bytes) 0 tick))
       step (inl is) =
-          skip-f 0xF0 (s .front) (s .size) (s .body) bytes rest (headed (0xF0 ∷ []) is) (by-f0 start file running at tick) (s .sized) e
+          skip-f 0xF0 (s .size) (s .body) bytes rest (headed (0xF0 ∷ []) is) (by-f0 start file running at tick) (s .sized) e
       step (inr (inl is)) =
-          skip-f 0xF7 (s .front) (s .size) (s .body) bytes rest (headed (0xF7 ∷ []) is) (by-f7 start file running at tick) (s .sized) e
+          skip-f 0xF7 (s .size) (s .body) bytes rest (headed (0xF7 ∷ []) is) (by-f7 start file running at tick) (s .sized) e
       step (inr (inr (type, l, k, is))) =
           skip-meta type (s .size) (s .body) bytes rest l k (headed (0xFF ∷ type ∷ []) is) (s .sized) e
 
 -- ---- an event
 
-pub timed-read : (file : List ℕ) (from : Reader) (time : List ℕ) (delta : ℕ) (more : List ℕ) (e : Event) → Is-number time delta
+timed-read : (file : List ℕ) (from : Reader) (time : List ℕ) (delta : ℕ) (more : List ℕ) (e : Event) → Is-number time delta
     → drop (from .at) file ≡ time ++ more
     → Read-on (from .at) file (from .running) (from .at + length time) (from .tick + delta) e → read-event file from ≡ ok e
 unfolding read-event
 timed-read file from time delta more e is f r =
-    rw (number-read file (from .at) time delta more is f, byte-read (from .at) file (from .at + length time) (r .first) (r .rest) (r .here), r .event)
+    rw (
+      number-read file (from .at) time delta more is f,
+      byte-read (from .at) file (from .at + length time) (r .first) (r .rest) (r .here),
+      r .event,
+    )
 
 pub event-read : (file : List ℕ) (from : Reader) (t : Timed) (rest : List ℕ) → Is-number (t .time) (t .delta)
     → Says (from .running) (t .said) (t .bytes) → drop (from .at) file ≡ t .time ++ (t .bytes ++ rest)
@@ -290,17 +268,18 @@ event-read file from t rest is says e =
     (says-read (from .at) file (from .running) (from .at + length (t .time)) (from .tick + t .delta) (t .said) (t .bytes) rest says
     (behind file (from .at) (t .time) (t .bytes ++ rest) e))
 
-pub end-read : (file : List ℕ) (from : Reader) (time : List ℕ) (delta : ℕ) → Is-number time delta
-    → drop (from .at) file ≡ time ++ (0xFF ∷ 0x2F ∷ 0x00 ∷ []) → read-event file from ≡ ok (ends (from .at + length time + 1 + 2))
-end-read file from time delta is e =
-    let f = behind file (from .at) time (0xFF ∷ 0x2F ∷ 0x00 ∷ []) e in
-    let (_, _, later) = front file (from .at + length time) 0xFF (0x2F ∷ 0x00 ∷ []) f in
-    timed-read file from time delta (0xFF ∷ 0x2F ∷ 0x00 ∷ []) _ is e
+-- the end of track, whatever follows it
+pub end-read : (file : List ℕ) (from : Reader) (time : List ℕ) (delta : ℕ) (rest : List ℕ) → Is-number time delta
+    → drop (from .at) file ≡ time ++ (0xFF ∷ 0x2F ∷ 0x00 ∷ rest) → read-event file from ≡ ok (ends (from .at + length time + 1 + 2))
+end-read file from time delta rest is e =
+    let f = behind file (from .at) time (0xFF ∷ 0x2F ∷ 0x00 ∷ rest) e in
+    let (_, _, later) = front file (from .at + length time) 0xFF (0x2F ∷ 0x00 ∷ rest) f in
+    timed-read file from time delta (0xFF ∷ 0x2F ∷ 0x00 ∷ rest) _ is e
     (record {
       first = 0xFF;
-      rest = 0x2F ∷ 0x00 ∷ [];
+      rest = 0x2F ∷ 0x00 ∷ rest;
       here = f;
       event =
           by-meta (from .at) file (from .running) (from .at + length time) (from .tick + delta)
-          ∙ meta-end (from .at) file (from .at + length time + 1) (from .tick + delta) [] later;
+          ∙ meta-end (from .at) file (from .at + length time + 1) (from .tick + delta) rest later;
     })

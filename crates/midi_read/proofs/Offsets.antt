@@ -1,28 +1,29 @@
--- The offset of a refusal, in words.
+-- The offset of a refusal, in words: where no event stands, or a byte behind the end of the track.
 -- Assumes nothing.
 use mathlib.Core.Path.{_≡_, refl, sym, ap, _∙_}
 use mathlib.Core.Bool.{Bool, true, false, cond}
 use mathlib.Core.List.{List, [], _∷_, _++_}
 use mathlib.Core.Option.{Option, none, some}
 use mathlib.Core.Logic.{_⊎_, inl, inr}
-use Prim.Native.Nat.{ℕ, zero, suc, _+_, _-_, _≤_, _<_}
+use Prim.Native.Nat.{ℕ, zero, suc, _+_, _≤_, _<_}
 use native.Mathlib.Omega.{arith}
 use lib.Dec.{ltb, leb, eqb}
 use lib.ListN.{length, drop, getD}
-use borrow.Author.Tests.{eqb-false, eq-eqb}
+use borrow.Author.Tests.{eqb-false}
 use Rattle.common.proofs.Loops.{lt-or-ge}
 use Rattle.segment.specs.declared.refusal.Refusal.{Refusal}
 use Rattle.segment.specs.Refusals.{midi-file, bar-too-far}
 use Rattle.segment.specs.Results.{Result, ok, refuse, _>>=_, check}
 use Rattle.midi_read.specs.declared.track.Reader.{Reader}
 use Rattle.midi_read.specs.declared.track.Hit.{Hit}
-use Rattle.midi_read.specs.Files.{Grid, Number, number-from, found, number, byte, low-byte, Event, sounds, silent, ends, reader, one-data-byte, exclusive, two-data-bytes, message, skipped, meta, by-status, read-event, bar-of, after, hits-from, hits, first-event}
-use Rattle.midi_read.specs.Claims.{Event-fine, Moved, Offset-right}
-use Rattle.midi_read.specs.Tracks.{Is-number, Said, channel, skipped-over, Timed, Says, running-after, running-behind, Events, bytes-of, No-event-at, Byte-behind-end}
+use Rattle.midi_read.specs.Files.{Grid, Number, number-from, found, number, byte, low-byte, Event, sounds, silent, ends, reader}
+use Rattle.midi_read.specs.Files.{one-data-byte, exclusive, message, skipped, meta, by-status, read-event, bar-of, after, hits-from}
+use Rattle.midi_read.specs.Files.{hits, first-event}
+use Rattle.midi_read.specs.Claims.{Event-fine, Offset-right}
+use Rattle.midi_read.specs.Tracks.{Is-number, Timed, Says, running-behind, Events, bytes-of, No-event-at, Byte-behind-end}
 use Rattle.midi_read.proofs.Fine.{events-fine}
-use Rattle.midi_read.proofs.Said.{Runs, One-event, The-end, Event-said, event-said}
-use Rattle.midi_read.proofs.Heard.{event-of, event-read, timed-read, Read-on, by-meta, meta-end}
-use Rattle.midi_read.proofs.Digits.{front, behind}
+use Rattle.midi_read.proofs.Said.{Runs, One-event, Event-said, event-said}
+use Rattle.midi_read.proofs.Heard.{event-read, end-read}
 use Rattle.midi_read.proofs.Tracks.{runs-on}
 
 -- ---- every refusal of an event has the offset of its delta time
@@ -73,14 +74,16 @@ module _ (start : ℕ) (file : List ℕ) where
   unfolding skipped
   only-skipped at tick =
       only-then _ (number start file at) _ (only-found start (number-from 4 0 file at))
-      (λ n. only-tested (midi-file start) (leb (n .next + n .value) (length file)) (λ _. ok (silent (reader (n .next + n .value) 0 tick))) (only-ok _ _))
+      (λ n. only-tested (midi-file start) (leb (n .next + n .value) (length file))
+      (λ _. ok (silent (reader (n .next + n .value) 0 tick))) (only-ok _ _))
 
   only-meta : (at tick : ℕ) → Only (midi-file start) (meta start file at tick)
   unfolding meta
   only-meta at tick =
       only-then _ (low-byte start file at) _ (only-low at)
       (λ x. only-cond _ (eqb x 0x2F) _ _
-      (only-then _ (byte start file (at + 1)) _ (only-byte (at + 1)) (λ b. only-tested (midi-file start) (eqb b 0) (λ _. ok (ends (at + 2))) (only-ok _ _)))
+      (only-then _ (byte start file (at + 1)) _ (only-byte (at + 1))
+      (λ b. only-tested (midi-file start) (eqb b 0) (λ _. ok (ends (at + 2))) (only-ok _ _)))
       (only-skipped (at + 1) tick))
 
   only-status : (running at tick b : ℕ) → Only (midi-file start) (by-status start file running at tick b)
@@ -98,31 +101,14 @@ only-event file from =
     (λ n. only-then _ (byte (from .at) file (n .next)) _ (only-byte (from .at) file (n .next))
     (λ b. only-status (from .at) file (from .running) (n .next) (from .tick + n .value) b))
 
--- ---- the end of track where something follows it
-
-end-then : (file : List ℕ) (from : Reader) (time : List ℕ) (delta : ℕ) (rest : List ℕ) → Is-number time delta
-    → drop (from .at) file ≡ time ++ (0xFF ∷ 0x2F ∷ 0x00 ∷ rest) → read-event file from ≡ ok (ends (from .at + length time + 1 + 2))
-end-then file from time delta rest is e =
-    let f = behind file (from .at) time (0xFF ∷ 0x2F ∷ 0x00 ∷ rest) e in
-    let (_, _, later) = front file (from .at + length time) 0xFF (0x2F ∷ 0x00 ∷ rest) f in
-    timed-read file from time delta (0xFF ∷ 0x2F ∷ 0x00 ∷ rest) _ is e
-    (record {
-      first = 0xFF;
-      rest = 0x2F ∷ 0x00 ∷ rest;
-      here = f;
-      event =
-          by-meta (from .at) file (from .running) (from .at + length time) (from .tick + delta)
-          ∙ meta-end (from .at) file (from .at + length time + 1) (from .tick + delta) rest later;
-    })
-
 -- ---- from a reader on
 
 record No-event-from (file : List ℕ) (from : Reader) (i : ℕ) : Type 0 where
   events : List Timed
   each : Events (from .running) events
   before : drop (from .at) file ≡ bytes-of events (drop i file)
-  no-event : (e : Timed) (rest : List ℕ) → Is-number (e .time) (e .delta) → Says (running-behind (from .running) events) (e .said) (e .bytes)
-      → drop i file ≡ e .time ++ (e .bytes ++ rest) → ⊥
+  no-event : (e : Timed) (rest : List ℕ) → Is-number (e .time) (e .delta)
+      → Says (running-behind (from .running) events) (e .said) (e .bytes) → drop i file ≡ e .time ++ (e .bytes ++ rest) → ⊥
   no-end : (time rest : List ℕ) (delta : ℕ) → Is-number time delta → drop i file ≡ time ++ (0xFF ∷ 0x2F ∷ 0x00 ∷ rest) → ⊥
 
 record Byte-from (file : List ℕ) (from : Reader) (i : ℕ) : Type 0 where
@@ -141,16 +127,18 @@ no-ok : {A : Type 0} (r : Result A) {x : Refusal} {a : A} → r ≡ refuse x →
 no-ok r e f = let z : _≡_ {A = ℕ} 0 1 = cc in absurd (omega arith)
 
 -- here, where no event is read
-here-none : (file : List ℕ) (from : Reader) (x : Refusal) (i : ℕ) → read-event file from ≡ refuse x → from .at ≡ i → No-event-from file from i
+here-none : (file : List ℕ) (from : Reader) (x : Refusal) (i : ℕ) → read-event file from ≡ refuse x → from .at ≡ i
+    → No-event-from file from i
 here-none file from x i e is = record {
   events = [];
   each = tt;
   before = ap (λ k. drop k file) is;
   no-event = λ t rest n s f. no-ok (read-event file from) e (event-read file from t rest n s (ap (λ k. drop k file) is ∙ f));
-  no-end = λ time rest delta n f. no-ok (read-event file from) e (end-then file from time delta rest n (ap (λ k. drop k file) is ∙ f));
+  no-end = λ time rest delta n f. no-ok (read-event file from) e (end-read file from time delta rest n (ap (λ k. drop k file) is ∙ f));
 }
 
-one-more : (file : List ℕ) (from next : Reader) (hit : List Hit) (i : ℕ) → One-event file from next hit → Stopped file next i → Stopped file from i
+one-more : (file : List ℕ) (from next : Reader) (hit : List Hit) (i : ℕ) → One-event file from next hit → Stopped file next i
+    → Stopped file from i
 one-more file from next hit i o (l, inl s) = (
   l,
   inl (record {
@@ -251,7 +239,10 @@ unfolding hits
 offset-right g file i long f = told (from-stops (length file) g file first-event i (inl refl) (omega arith) (omega arith) f)
   where
     told : Stopped file first-event i → (i ≤ length file) × (No-event-at file i ⊎ Byte-behind-end file i)
-    told (l, inl s) = (l, inl (record { events = s .events; each = s .each; before = s .before; no-event = s .no-event; no-end = s .no-end }))
+    told (l, inl s) = (
+      l,
+      inl (record { events = s .events; each = s .each; before = s .before; no-event = s .no-event; no-end = s .no-end }),
+    )
     told (l, inr s) = (
       l,
       inr (record {

@@ -3,27 +3,28 @@
 use mathlib.Core.Path.{_≡_, refl, sym, ap, _∙_}
 use mathlib.Core.Bool.{Bool, true, false, cond}
 use mathlib.Core.List.{List, [], _∷_, _++_}
-use mathlib.Core.Logic.{_⊎_, inl, inr, _↔_}
-use Prim.Native.Nat.{ℕ, zero, suc, _+_, _-_, _≤_, _<_}
+use mathlib.Core.Logic.{inl, inr}
+use Prim.Native.Nat.{ℕ, zero, suc, _+_, _≤_}
 use native.Mathlib.Omega.{arith}
-use lib.Dec.{ltb, leb, eqb}
+use lib.Dec.{leb, eqb}
 use lib.ListN.{length, drop, getD, length-append, length-drop}
 use borrow.Author.Tests.{eqb-true, le-leb, eq-eqb}
 use Rattle.common.specs.Elements.{_∈_}
 use Rattle.common.proofs.Loops.{drop-end}
 use Rattle.segment.specs.Refusals.{midi-file, bar-too-far}
-use Rattle.segment.specs.Results.{Result, ok, refuse, _>>=_, check}
+use Rattle.segment.specs.Results.{Result, ok, _>>=_}
 use Rattle.segment.proofs.Binds.{bind-gives, ok-same, refuse-ok}
 use Rattle.segment.proofs.Accepted.{check-gives}
 use Rattle.midi_read.specs.declared.track.Reader.{Reader}
 use Rattle.midi_read.specs.declared.track.Hit.{Hit}
 use Rattle.midi_read.specs.Files.{Grid, Event, sounds, silent, ends, reader, read-event, bar-of, after, hits-from, hits, first-event}
-use Rattle.midi_read.specs.Tracks.{Is-number, Said, channel, skipped-over, Timed, Says, running-after, Events, bytes-of, note-on, with-hit, hits-in, Is-track, Plays-so}
+use Rattle.midi_read.specs.Tracks.{Is-number, Said, channel, skipped-over, Timed, Says, running-after, Events, bytes-of, note-on}
+use Rattle.midi_read.specs.Tracks.{with-hit, hits-in, Plays-so}
 use Rattle.midi_read.specs.Claims.{Tracks-exactly}
 use Rattle.midi_read.proofs.Fine.{read-so}
 use Rattle.midi_read.proofs.Walks.{unrolled}
 use Rattle.midi_read.proofs.Digits.{behind}
-use Rattle.midi_read.proofs.Said.{Runs, One-event, The-end, Event-said, event-said}
+use Rattle.midi_read.proofs.Said.{Runs, One-event, Event-said, event-said}
 use Rattle.midi_read.proofs.Heard.{event-of, event-read, end-read}
 
 abbrev closing : List ℕ
@@ -125,7 +126,7 @@ from-read [] g file from time delta each is e near =
     let long : length (drop (from .at) file) ≡ length (time ++ closing) = ap length e in
     let whole : from .at + length time + 1 + 2 ≡ length file =
     omega (arith, long, length-drop (from .at) file, length-append time closing) in
-    unrolled g file from ∙ rw (end-read file from time delta is e, eq-eqb (from .at + length time + 1 + 2) (length file) whole)
+    unrolled g file from ∙ rw (end-read file from time delta [] is e, eq-eqb (from .at + length time + 1 + 2) (length file) whole)
 from-read (t ∷ ts) g file from time delta (timed, says, each) is e near =
     let tick = from .tick + t .delta in
     let next : Reader = reader (from .at + length (t .time) + length (t .bytes)) (running-after (t .said)) tick in
