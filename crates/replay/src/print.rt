@@ -1,19 +1,8 @@
 // The totals, and the words between.
-use libc::STDOUT_FILENO;
-
-pub fn put(s: &[u8]) {
-    io::write_all(STDOUT_FILENO, s);
-}
-
-fn put_number(x: u64) {
-    io::print_decimal(STDOUT_FILENO, x);
-}
-
-// A case by its number, from 0.
-pub fn put_case(i: u32) {
-    put(b"case ");
-    put_number(i as u64);
-}
+use replay_list::print::put;
+use replay_list::print::put_case;
+use replay_list::print::put_counts;
+use replay_list::print::put_kind;
 
 fn put_call(call: u32) {
     match call {
@@ -38,14 +27,6 @@ pub fn put_difference(i: u32, call: u32) {
     put(b", differs\n");
 }
 
-fn put_counts(cases: u64, failed: u64) {
-    put(b": ");
-    put_number(cases);
-    put(b" cases, ");
-    put_number(failed);
-    put(b" failed\n");
-}
-
 fn put_asked(call: u32, cases: u64, failed: u64) {
     put_call(call);
     put_counts(cases, failed);
@@ -65,14 +46,6 @@ pub fn put_calls(asked: &[u64; 16], failed: &[u64; 16]) {
     put_asked(11, asked[11], failed[11]);
 }
 
-fn put_kind(kind: u64, cases: u64) {
-    put(b"kind ");
-    put_number(kind);
-    put(b": ");
-    put_number(cases);
-    put(b"\n");
-}
-
 pub fn put_kinds(kinds: &[u64; 16]) {
     put_kind(0, kinds[0]);
     put_kind(1, kinds[1]);
@@ -88,9 +61,4 @@ pub fn put_kinds(kinds: &[u64; 16]) {
     put_kind(11, kinds[11]);
     put_kind(12, kinds[12]);
     put_kind(13, kinds[13]);
-}
-
-pub fn put_total(cases: u32, failures: u32) {
-    put(b"total");
-    put_counts(cases as u64, failures as u64);
 }

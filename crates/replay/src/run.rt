@@ -1,8 +1,4 @@
 // A case's call, made and compared.
-use crate::buffers::begins_with;
-use crate::buffers::fill;
-use crate::buffers::fill_bytes;
-use crate::buffers::read_numbers;
 use crate::case::ENDS;
 use crate::case::FIRST;
 use crate::case::IDS;
@@ -24,7 +20,6 @@ use crate::case::call_of;
 use crate::case::is_ordered;
 use crate::case::list_of;
 use crate::case::reply_of;
-use crate::case::size_within;
 use pstp::ask::pstp_near_match;
 use pstp::ask::pstp_near_match_terms_strs;
 use pstp::ask::pstp_phrase_match_strs;
@@ -37,6 +32,12 @@ use pstp::read::pstp_positions;
 use pstp::read::pstp_term_postings;
 use pstp::reply::Reply;
 use pstp::write::pstp_write_positional_segment;
+use replay_list::buffers::begins_with;
+use replay_list::buffers::fill;
+use replay_list::buffers::fill_bytes;
+use replay_list::buffers::read_numbers;
+use replay_list::fields::size_within;
+use replay_list::replies::same_reply;
 use segment::names::starts_with;
 
 // What the library answered: its kind, and whether reply and buffers are the case's.
@@ -44,14 +45,6 @@ pub struct Outcome {
     pub call: u32,
     pub kind: u32,
     pub same: bool,
-}
-
-fn same_reply(a: Reply, b: Reply) -> bool {
-    a.kind == b.kind
-        && a.which == b.which
-        && a.index == b.index
-        && a.first == b.first
-        && a.second == b.second
 }
 
 // Whether the buffers begin with what the case has.

@@ -4,10 +4,10 @@ use Rattle.replay.proofs.replay.Statement.{statement}
 use Rattle.replay.proofs.replay.Tie as tie
 
 abbrev Inv-loop : tie.InvT-loop
-Inv-loop fd cases case₀ asked₀ failed₀ kinds₀ failures₀ i₀ t10 t11 case asked failed kinds failures i = Unit {0}
+Inv-loop fd cases case₀ asked₀ failed₀ kinds₀ failures₀ i₀ case asked failed kinds failures i = Unit {0}
 
 abbrev μ-loop : tie.MeasureT-loop
-μ-loop fd cases case₀ asked₀ failed₀ kinds₀ failures₀ i₀ t10 t11 case asked failed kinds failures i = cases - i
+μ-loop fd cases case₀ asked₀ failed₀ kinds₀ failures₀ i₀ case asked failed kinds failures i = cases - i
 
 buffer-requires : tie.Need-buffer-requires Inv-loop μ-loop
 buffer-requires c κs = search needs
@@ -18,14 +18,8 @@ loop-holds c = search needs
 read-case-requires : tie.Need-read-case-requires Inv-loop μ-loop
 read-case-requires c κs = search needs
 
-put-case-requires : tie.Need-put-case-requires Inv-loop μ-loop
-put-case-requires c κs = search needs
-
-slice-aggregate-put : tie.Need-slice-aggregate-put Inv-loop μ-loop
-slice-aggregate-put c = search needs
-
-put-requires : tie.Need-put-requires Inv-loop μ-loop
-put-requires c κs = search needs
+put-malformed-requires : tie.Need-put-malformed-requires Inv-loop μ-loop
+put-malformed-requires c κs = search needs
 
 returns : tie.Need-returns Inv-loop μ-loop
 returns c = search needs
@@ -57,11 +51,8 @@ loop-again c = search needs
 is-at-end-requires : tie.Need-is-at-end-requires Inv-loop μ-loop
 is-at-end-requires c κs = search needs
 
-slice-aggregate-put-2 : tie.Need-slice-aggregate-put-2 Inv-loop μ-loop
-slice-aggregate-put-2 c = search needs
-
-put-requires-2 : tie.Need-put-requires-2 Inv-loop μ-loop
-put-requires-2 c κs = search needs
+put-no-end-requires : tie.Need-put-no-end-requires Inv-loop μ-loop
+put-no-end-requires c κs = search needs
 
 returns-2 : tie.Need-returns-2 Inv-loop μ-loop
 returns-2 c = search needs
@@ -87,9 +78,7 @@ replay-spec =
     buffer-requires
     loop-holds
     read-case-requires
-    put-case-requires
-    slice-aggregate-put
-    put-requires
+    put-malformed-requires
     returns
     run-requires
     count-requires
@@ -100,8 +89,7 @@ replay-spec =
     loop-less
     loop-again
     is-at-end-requires
-    slice-aggregate-put-2
-    put-requires-2
+    put-no-end-requires
     returns-2
     put-calls-requires
     put-kinds-requires

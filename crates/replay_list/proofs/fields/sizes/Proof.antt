@@ -1,7 +1,7 @@
 use Prim.Native.Nat.{_-_}
 use borrow.Author.Needs.{needs}
-use Rattle.replay.proofs.case.sizes.Statement.{statement}
-use Rattle.replay.proofs.case.sizes.Tie as tie
+use Rattle.replay_list.proofs.fields.sizes.Statement.{statement}
+use Rattle.replay_list.proofs.fields.sizes.Tie as tie
 
 abbrev Inv-loop : tie.InvT-loop
 Inv-loop case from to sum₀ part₀ sum part = Unit {0}

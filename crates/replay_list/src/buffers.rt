@@ -1,5 +1,5 @@
-// The numbers of a case, and the lent buffers, as they are before a call and compared after it.
-use crate::case::number_at;
+// Numbers read, and the lent buffers, as they are before a call and compared after it.
+use crate::fields::number_at;
 
 // The numbers from a place on.
 pub fn read_numbers(bytes: &[u8], from: usize, numbers: &mut [u32]) {

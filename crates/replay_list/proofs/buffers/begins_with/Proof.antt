@@ -1,8 +1,8 @@
 use Prim.Native.Nat.{_-_, _≤_}
 use lib.ListN.{length}
 use borrow.Author.Needs.{needs}
-use Rattle.replay.proofs.buffers.begins_with.Statement.{statement}
-use Rattle.replay.proofs.buffers.begins_with.Tie as tie
+use Rattle.replay_list.proofs.buffers.begins_with.Statement.{statement}
+use Rattle.replay_list.proofs.buffers.begins_with.Tie as tie
 
 abbrev Inv-loop : tie.InvT-loop
 Inv-loop buffer places i₀ i = i ≤ length places

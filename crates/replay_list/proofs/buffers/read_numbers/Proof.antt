@@ -3,8 +3,8 @@ use Prim.Native.Nat.{_-_, _≤_}
 use lib.ListN.{length, set, length-set}
 use borrow.Author.Needs.{needs}
 use native.Mathlib.Omega.{arith}
-use Rattle.replay.proofs.buffers.read_numbers.Statement.{statement}
-use Rattle.replay.proofs.buffers.read_numbers.Tie as tie
+use Rattle.replay_list.proofs.buffers.read_numbers.Statement.{statement}
+use Rattle.replay_list.proofs.buffers.read_numbers.Tie as tie
 
 abbrev Inv-loop : tie.InvT-loop
 Inv-loop bytes from numbers₀ at₀ i₀ numbers at i = (i ≤ length numbers) × (length numbers ≡ length numbers₀)
