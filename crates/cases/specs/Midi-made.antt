@@ -2,13 +2,13 @@
 use Prim.Native.Nat.{ℕ, _/_, _%_}
 use mathlib.Core.List.{List, [], _∷_, _++_}
 use lib.ListN.{length, replicate}
-use Rattle.segment.specs.Results.{Result}
+use Rattle.segment.specs.Results.{Result, _>>=_}
 use Rattle.segment.specs.declared.replies.Imported.{Imported}
 use Rattle.segment.specs.declared.replies.Imported.the-variants as imported
 use Rattle.calls.specs.Given.{Lists, lists}
 use Rattle.midi_read.specs.declared.track.Hit.{Hit}
+use Rattle.midi_read.specs.Files.{chunks, hits}
 use Rattle.midi_bars.specs.Imports.{import-file, import-into}
-use Rattle.midi_bars.specs.Words.{note-ons}
 use Rattle.midi_import.specs.Promise.{Bars-imported}
 
 -- ---- files
@@ -60,7 +60,7 @@ put file = into (room 0 0 0 0 0 0 0 0) file
 
 -- the hits in file order
 abbrev pub heard : (file : List ℕ) → Result (List Hit)
-heard file = note-ons 16 4 file
+heard file = chunks 16 4 file >>= (λ g. hits g file)
 
 abbrev pub hit : (tick note velocity : ℕ) → Hit
 hit t n v = record { tick = t; note = n; velocity = v }

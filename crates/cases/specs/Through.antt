@@ -34,7 +34,6 @@ use Rattle.midi_read.specs.Files as midi
 use Rattle.midi_bars.specs.Bars.{rising-from, bar-count, sounds-of, bars-of, given-of, lists-of}
 use Rattle.midi_bars.specs.Bars as bars
 use Rattle.midi_bars.specs.Imports.{import-file, import-into, roomy-all}
-use Rattle.midi_bars.specs.Words.{note-ons}
 
 unfoldable pub numbers : Unit {0}
 unfolding uleb128 encoded chunks
@@ -108,7 +107,7 @@ unfolding same midi.header midi.heading midi.chunks import-file import-into
 heading-read = tt
 
 unfoldable pub hearing : Unit {0}
-unfolding heading-read midi.number-from midi.message midi.skipped midi.meta midi.by-status midi.read-event midi.hits-from midi.hits note-ons
+unfolding heading-read midi.number-from midi.message midi.skipped midi.meta midi.by-status midi.read-event midi.hits-from midi.hits
 hearing = tt
 
 unfoldable pub importing : Unit {0}

@@ -57,9 +57,12 @@ module _ (steps quarter : ℕ) (file : List ℕ) (b : Lists) where
   accepts-so : {l : Lists} {t : ListTotals} {a : Asked} → import-into steps quarter file b ≡ ok l
       → Imported-exactly steps quarter file b (reply.Asked t a)
   accepts-so {l} {t} {a} read = (
-    λ _. (read-exactly steps quarter file .0 (l, read-by steps quarter file b l read), λ m e.
-        let same : l ≡ m = ok-same (sym (read-by steps quarter file b l read) ∙ e) in
-        subst (λ q. roomy-all q b ≡ ok tt) same (room-by steps quarter file b l read)),
+    λ _. (
+      read-exactly steps quarter file .0 (l, read-by steps quarter file b l read),
+      λ m e.
+          let same : l ≡ m = ok-same (sym (read-by steps quarter file b l read) ∙ e) in
+          subst (λ q. roomy-all q b ≡ ok tt) same (room-by steps quarter file b l read),
+    ),
     λ _. (t, a, refl),
   )
 
