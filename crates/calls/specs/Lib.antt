@@ -9,5 +9,6 @@ pub mod Acceptance
 pub mod Writing
 pub mod Sizes
 pub mod Listing
+pub mod Sheet
 -- What is claimed of the definitions:
 pub mod Claims

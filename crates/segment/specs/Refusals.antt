@@ -80,6 +80,16 @@ midi-file i = refusal 14 0 i
 abbrev pub bar-too-far : Refusal
 bar-too-far = refusal 15 0 0
 
+-- ---- kinds of a bar that is asked for by its id (document 02)
+
+-- no bar has the id
+abbrev pub unknown-bar : Refusal
+unknown-bar = refusal 16 0 0
+
+-- more than 64 steps
+abbrev pub bar-too-long : Refusal
+bar-too-long = refusal 17 0 0
+
 -- ---- reasons of an invalid layout: in what is read
 
 abbrev pub trailing-bytes : ℕ

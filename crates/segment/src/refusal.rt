@@ -5,6 +5,7 @@ ghost use mathlib.Core.Path.{_≡_};
 ghost use Rattle.segment.specs.Refusals.{truncated, invalid-magic, unsupported-version, unsupported-flags, checksum-mismatch};
 ghost use Rattle.segment.specs.Refusals.{invalid-layout, invalid-varint, doc-id-overflow, position-overflow, invalid-utf8};
 ghost use Rattle.segment.specs.Refusals.{list-shape, too-large, no-room, midi-file, bar-too-far};
+ghost use Rattle.segment.specs.Refusals.{unknown-bar, bar-too-long};
 
 pub struct Refusal {
     pub kind: u32,
@@ -42,6 +43,10 @@ pub const NO_ROOM: u32 = 13;
 pub const MIDI_FILE: u32 = 14;
 
 pub const BAR_TOO_FAR: u32 = 15;
+
+pub const UNKNOWN_BAR: u32 = 16;
+
+pub const BAR_TOO_LONG: u32 = 17;
 
 // Sections.
 pub const HEADER: u32 = 1;
@@ -263,6 +268,28 @@ pub fn bar_too_far() -> Refusal
 {
     Refusal {
         kind: BAR_TOO_FAR,
+        which: 0,
+        index: 0,
+    }
+}
+
+// Kind 16: the segment has no bar with the id asked for.
+pub fn unknown_bar() -> Refusal
+    ensures { λ r. ⌜ r ≡ unknown-bar ⌝ }
+{
+    Refusal {
+        kind: UNKNOWN_BAR,
+        which: 0,
+        index: 0,
+    }
+}
+
+// Kind 17: a bar of more than 64 steps.
+pub fn bar_too_long() -> Refusal
+    ensures { λ r. ⌜ r ≡ bar-too-long ⌝ }
+{
+    Refusal {
+        kind: BAR_TOO_LONG,
         which: 0,
         index: 0,
     }
