@@ -1,4 +1,5 @@
 -- Laws that belong to no one function, lowest first.
 pub mod Answering
+pub mod Sought
 pub mod Seeking
 pub mod Turns

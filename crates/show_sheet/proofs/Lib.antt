@@ -1,0 +1,4 @@
+-- Laws that belong to no one function, lowest first.
+pub mod Bars
+pub mod Lines
+pub mod Drawn
