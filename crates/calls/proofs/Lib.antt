@@ -5,6 +5,7 @@ pub mod Accepted
 pub mod Passing
 pub mod Accepts
 pub mod Posted
+pub mod Below
 pub mod Answering
 pub mod Decoding
 pub mod Filling

@@ -1,6 +1,7 @@
 -- Laws that belong to no one function, lowest first.
 pub mod Binds
 pub mod Accepted
+pub mod Within
 pub mod Ends
 pub mod Fields
 pub mod Inversions
