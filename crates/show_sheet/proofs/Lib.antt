@@ -1,4 +1,5 @@
 -- Laws that belong to no one function, lowest first.
 pub mod Bars
+pub mod Hits
 pub mod Lines
 pub mod Drawn

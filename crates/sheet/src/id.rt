@@ -1,0 +1,27 @@
+// A bar's id, from decimal digits.
+
+pub enum BarId {
+    Id(u32),
+    NotOne,
+}
+
+// An id has at least one digit, and is below 2^32.
+pub fn read_id(word: &[u8]) -> BarId {
+    if word.len() == 0 {
+        return BarId::NotOne;
+    }
+    let mut id: u64 = 0;
+    let mut i: usize = 0;
+    while i < word.len() {
+        let b = word[i];
+        if b < 48 || 57 < b {
+            return BarId::NotOne;
+        }
+        id = id * 10 + (b - 48) as u64;
+        if 4294967295 < id {
+            return BarId::NotOne;
+        }
+        i += 1;
+    }
+    BarId::Id(id as u32)
+}
