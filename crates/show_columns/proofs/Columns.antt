@@ -5,6 +5,7 @@ use mathlib.Core.List.{List, [], _∷_, _++_, append-assoc, append-nil}
 use mathlib.Core.Logic.{⊎-elim}
 use Prim.Native.Nat.{ℕ, zero, suc, _+_, _-_, _/_, _%_, _^_, _≤_, _<_}
 use native.Mathlib.Nat.{pow-suc, sub-zero}
+use native.Mathlib.Numerals.{add-one}
 use native.Mathlib.Omega.{arith}
 use lib.ListN.{length, set, replicate, length-append, length-replicate}
 use lib.Seq.{sets}
@@ -12,8 +13,10 @@ use borrow.Author.Tests.{lt-ltb, le-ltb, ne-eqb}
 use Rattle.common.specs.Stores.{Stored}
 use Rattle.common.proofs.Loops.{lt-or-ge}
 use Rattle.calls.specs.Listing.{digits, column}
+use Rattle.calls.specs.Sheet.{right-justified}
 use Rattle.show_columns.specs.Steps.{digit-of}
 use Rattle.common.proofs.Sets.{sets-last}
+use Rattle.common.proofs.Stores.{stored-append}
 
 -- ---- a number
 
@@ -135,3 +138,28 @@ front-end (suc i) left h = absurd (omega arith)
 pub column-stored : (l : List ℕ) (at n : ℕ) → n < 10000000000
     → sets (set l (at + 9) (48 + n % 10)) at (front 9 (n / 10)) ≡ sets l at (column n)
 column-stored l at n h = front-stored l at 9 (n / 10) (48 + n % 10) ∙ ap (sets l at) (sym (column-is n h))
+
+-- ---- a number in four columns
+
+hits-is : (n : ℕ) → n < 10000 → right-justified 4 n ≡ front 3 (n / 10) ++ (48 + n % 10) ∷ []
+unfolding right-justified
+hits-is n h = column-front 3 19 n (omega arith) h
+
+pub hits-length : (n : ℕ) → n < 10000 → length (right-justified 4 n) ≡ 4
+hits-length n h =
+    ap length (hits-is n h) ∙ length-append (front 3 (n / 10)) ((48 + n % 10) ∷ []) ∙ ap (λ k. k + 1) (front-length 3 (n / 10))
+
+pub past-hits : (n : ℕ) {at next : ℕ} {l o : List ℕ} → Stored (right-justified 4 n) at l next o → n < 10000 → next ≡ at + 4
+past-hits n s h = omega (arith, s .past, hits-length n h)
+
+-- of two digits: two spaces, the tens or a space, the units
+hits-parts : (n : ℕ) → n < 100 → right-justified 4 n ≡ replicate 2 32 ++ digit-of (n / 10) ∷ (48 + n % 10) ∷ []
+unfolding front
+hits-parts n h = let none : n / 10 / 10 ≡ 0 = omega arith in hits-is n (omega arith) ∙ rw none
+
+two-stored : (l : List ℕ) (at a b : ℕ) → Stored (a ∷ b ∷ []) at l (at + 2) (set (set l at a) (at + 1) b)
+two-stored l at a b = record { past = refl; left = rw (add-one at) }
+
+pub hits-stored : (n : ℕ) {at next t : ℕ} {l o : List ℕ} → n < 100 → Stored (replicate 2 32) at l next o → t ≡ digit-of (n / 10)
+    → Stored (right-justified 4 n) at l (next + 2) (set (set o next t) (next + 1) (48 + n % 10))
+hits-stored n {next = next} {t} {o = o} h s e = rw (hits-parts n h, ← e) (stored-append s (two-stored o next t (48 + n % 10)))

@@ -1,4 +1,5 @@
 // Numbers and names in columns, stored from an offset on. Each `put_` returns the offset past what it stored.
+use common::widths::wide;
 use utf8::prefix::first_characters;
 ghost use mathlib.Core.Path.{_≡_};
 ghost use mathlib.Core.List.{map};
@@ -7,6 +8,7 @@ ghost use lib.ListN.{length, take, replicate};
 ghost use Rattle.common.specs.Slices.{was, left};
 ghost use Rattle.common.specs.Stores.{Stored};
 ghost use Rattle.calls.specs.Listing.{shown as shown-byte, column, name-column};
+ghost use Rattle.calls.specs.Sheet.{right-justified};
 ghost use Rattle.show_columns.specs.Steps.{digit-of};
 
 // The byte in front of the digits that are stored: the last digit of the rest of the number, or a space.
@@ -59,7 +61,7 @@ fn put_shown(out: &mut [u8], at: usize, s: &[u8], count: usize) -> usize
 }
 
 // Spaces.
-fn put_spaces(out: &mut [u8], at: usize, count: usize) -> usize
+pub fn put_spaces(out: &mut [u8], at: usize, count: usize) -> usize
     requires { ⌜ at + count ≤ length (now out) ⌝ }
     ensures { λ r. ⌜ Stored (replicate count 32) at (was out) r (left out) ⌝ }
 {
@@ -69,6 +71,17 @@ fn put_spaces(out: &mut [u8], at: usize, count: usize) -> usize
         i += 1;
     }
     at + count
+}
+
+// A number below 100, right-justified in four columns.
+pub fn put_hits(out: &mut [u8], at: usize, n: u32) -> usize
+    requires { ⌜ (n < 100) × (at + 4 ≤ length (now out)) ⌝ }
+    ensures { λ r. ⌜ Stored (right-justified 4 n) at (was out) r (left out) ⌝ }
+{
+    let tens = put_spaces(out, at, 2);
+    out[tens] = digit(wide(n / 10));
+    out[tens + 1] = (48 + n % 10) as u8;
+    tens + 2
 }
 
 // How many bytes a name's column has.

@@ -32,7 +32,7 @@ ghost use Rattle.read_open.specs.Opened.{Opened-as};
 ghost use Rattle.show_listing.specs.Promise.{Listed-into};
 
 // The end of a line.
-fn put_end(out: &mut [u8], at: usize) -> usize
+pub fn put_end(out: &mut [u8], at: usize) -> usize
     requires { ⌜ at + 1 ≤ length (now out) ⌝ }
     ensures { λ r. ⌜ Stored (10 ∷ []) at (was out) r (left out) ⌝ }
 {
@@ -69,7 +69,7 @@ fn put_documents(meta: &[u8], count: u32, out: &mut [u8], at: usize) -> usize
 const NAME_WIDTH: usize = 16;
 
 // Where a term's name lies in the section of term bytes.
-fn entry_name(dir: &[u8], i: usize) -> NameRange
+pub fn entry_name(dir: &[u8], i: usize) -> NameRange
     requires { ⌜ i * entry-size + entry-size ≤ length (now dir) ⌝ }
     ensures { λ r. ⌜ r ≡ name-range (was dir) i ⌝ }
 {
