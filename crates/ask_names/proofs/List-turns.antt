@@ -10,7 +10,7 @@ use Rattle.read_lists.specs.declared.lists.Tally.the-variants as tally
 use Rattle.segment.specs.declared.refusal.Refusal.{Refusal}
 use Rattle.segment.specs.Results.{Result, ok, refuse}
 use Rattle.segment.specs.Records.{Document}
-use Rattle.segment.specs.Postings.{decode}
+use Rattle.segment.specs.Postings.{decode, total-positions}
 use Rattle.read_lists.specs.Steps.{tallied}
 use Rattle.read_terms.specs.declared.find.TermList.{TermList}
 use Rattle.read_terms.specs.Steps.{list-entry}
@@ -24,13 +24,13 @@ module _ (documents : List Document) (bytes : List ℕ) (lists : List TermList) 
         → decode-from documents bytes lists (n - (k + 1)) (k + 1) ≡ whole
     unfolding decode-from
     lists-next e =
-        let (ps, q, t) = tally-ok (decode documents (list-entry bytes (getD lists k no-list))) e in
+        let (ps, q, t) = tally-ok total-positions (decode documents (list-entry bytes (getD lists k no-list))) e in
         rw (add-one k) (rw (left-suc n k h, q, add-one k) at inv)
 
     pub lists-stop : {x : Refusal} → tally.Refused x ≡ tallied (decode documents (list-entry bytes (getD lists k no-list)))
         → refuse x ≡ whole
     unfolding decode-from
-    lists-stop e = rw (left-suc n k h, tally-refused (decode documents (list-entry bytes (getD lists k no-list))) e) at inv
+    lists-stop e = rw (left-suc n k h, tally-refused total-positions (decode documents (list-entry bytes (getD lists k no-list))) e) at inv
 
   pub lists-end : n ≤ k → ok tt ≡ whole
   unfolding decode-from

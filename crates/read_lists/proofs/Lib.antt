@@ -4,3 +4,4 @@ pub mod Heads
 pub mod Positions
 pub mod Taken
 pub mod Tallies
+pub mod Running

@@ -1,8 +1,8 @@
--- Postings read one by one, with a running total of their positions: the rest from here is the whole.
+-- Postings read one by one, with a running total of their positions, all of them or one document's: the rest from here is the whole.
 -- Assumes nothing.
 use mathlib.Core.Path.{_≡_, refl, sym, ap, _∙_}
 use mathlib.Core.Bool.{Bool, true, false, cond}
-use mathlib.Core.List.{List, _∷_}
+use mathlib.Core.List.{List, [], _∷_}
 use mathlib.Core.Option.{Option, none, some}
 use Prim.Native.Nat.{ℕ, zero, suc, _+_, _-_, _≤_, _<_}
 use native.Mathlib.Numerals.{add-one}
@@ -27,7 +27,7 @@ use Rattle.segment.specs.Records.{Document, Posting, Read}
 use Rattle.segment.specs.Metadata.{length-of}
 use Rattle.read_cursors.specs.Steps.{documents-from}
 use Rattle.segment.specs.Postings.{Head, read-value, read-positions, read-head, read-posting, read-postings, all-postings, total-positions}
-use Rattle.read_lists.specs.Steps.{after, positions-mean, Walked-positions, head-means, Walked-head, tallied}
+use Rattle.read_lists.specs.Steps.{after, positions-mean, Walked-positions, head-means, Walked-head, tallied-by, positions-in}
 use Rattle.segment.proofs.Binds.{ok-same, refuse-ok}
 use Rattle.read_cursors.proofs.Gaps.{further}
 use Rattle.read_cursors.proofs.Value-reads.{value-read, value-rises}
@@ -62,18 +62,37 @@ module _ (ds es : List Document) where
 
 -- ---- the running total
 
-abbrev pub tally-from : ℕ → Result (Read (List Posting)) → Result (Read ℕ)
-tally-from total (ok a) = ok (record { got = total + total-positions (a .got); rest = a .rest })
-tally-from total (refuse x) = refuse x
+-- a number of each posting, summed: it depends on the document and on the number of positions, and is at most that number
+pub record Sums (number : List Posting → ℕ) (weigh : (doc count : ℕ) → ℕ) : Type 0 where
+  pub of-none : number [] ≡ 0
+  pub of-more : (p : Posting) (ps : List Posting) → number (p ∷ ps) ≡ weigh (p .doc) (length (p .positions)) + number ps
+  pub light : (doc count : ℕ) → weigh doc count ≤ count
 
-tally-more : (total : ℕ) (p : Posting) (m : Result (Read (List Posting)))
-    → tally-from total (m >>= λ more. ok (record { got = p ∷ more .got; rest = more .rest })) ≡ tally-from (total + length (p .positions)) m
+pub all-counted : Sums total-positions (λ doc count. count)
 unfolding total-positions
-tally-more total p (ok a) =
-    let s : total + (length (p .positions) + total-positions (a .got))
-    ≡ total + length (p .positions) + total-positions (a .got) = omega arith in
-    ap (λ (n : ℕ). ok (record { got = n; rest = a .rest })) s
-tally-more total p (refuse x) = refl
+all-counted = record { of-none = refl; of-more = λ p ps. refl; light = λ doc count. omega arith }
+
+pub one-counted : (asked : ℕ) → Sums (positions-in asked) (λ doc count. cond (eqb doc asked) count 0)
+unfolding positions-in
+one-counted asked = record { of-none = refl; of-more = λ p ps. refl; light = λ doc count. at-most (eqb doc asked) count }
+  where
+    at-most : (t : Bool) (count : ℕ) → cond t count 0 ≤ count
+    at-most true count = omega arith
+    at-most false count = omega arith
+
+abbrev pub tally-from : (List Posting → ℕ) → ℕ → Result (Read (List Posting)) → Result (Read ℕ)
+tally-from number total (ok a) = ok (record { got = total + number (a .got); rest = a .rest })
+tally-from number total (refuse x) = refuse x
+
+module _ {number : List Posting → ℕ} {weigh : ℕ → ℕ → ℕ} (sums : Sums number weigh) where
+  tally-more : (total : ℕ) (p : Posting) (m : Result (Read (List Posting)))
+      → tally-from number total (m >>= λ more. ok (record { got = p ∷ more .got; rest = more .rest }))
+      ≡ tally-from number (total + weigh (p .doc) (length (p .positions))) m
+  tally-more total p (ok a) =
+      let s : total + number (p ∷ a .got) ≡ total + weigh (p .doc) (length (p .positions)) + number (a .got)
+      = omega (arith, sums .of-more p (a .got)) in
+      ap (λ (n : ℕ). ok (record { got = n; rest = a .rest })) s
+  tally-more total p (refuse x) = refl
 
 -- the postings after one
 abbrev later : (count place : ℕ) (documents : List Document) (doc : ℕ) (rest : List ℕ) → Result (Read (List Posting))
@@ -88,22 +107,24 @@ module _ (doc : ℕ) (next : ℕ → List ℕ → Result (Read (List Posting))) 
   with-positions m =
       posting-with m >>= λ p. next (p .got .doc) (p .rest) >>= λ more. ok (record { got = p .got ∷ more .got; rest = more .rest })
 
-  tally-refused : (total : ℕ) (m : Result (Read (List ℕ))) {x : Refusal} → after m ≡ refuse x
-      → tally-from total (with-positions m) ≡ refuse x
-  tally-refused total (ok a) e = refuse-ok (sym e)
-  tally-refused total (refuse x) e = cc
+  tally-refused : (number : List Posting → ℕ) (total : ℕ) (m : Result (Read (List ℕ))) {x : Refusal} → after m ≡ refuse x
+      → tally-from number total (with-positions m) ≡ refuse x
+  tally-refused number total (ok a) e = refuse-ok (sym e)
+  tally-refused number total (refuse x) e = cc
 
-  tally-posting : (total count place len : ℕ) (bytes : List ℕ) (m : Result (Read (List ℕ))) → m ≡ read-positions count place len none bytes
-      → {rest : List ℕ} → after m ≡ ok rest → tally-from total (with-positions m) ≡ tally-from (total + count) (next doc rest)
-  tally-posting total count place len bytes (ok a) is e =
+  tally-posting : {number : List Posting → ℕ} {weigh : ℕ → ℕ → ℕ} → Sums number weigh → (total count place len : ℕ) (bytes : List ℕ)
+      (m : Result (Read (List ℕ))) → m ≡ read-positions count place len none bytes → {rest : List ℕ} → after m ≡ ok rest
+      → tally-from number total (with-positions m) ≡ tally-from number (total + weigh doc count) (next doc rest)
+  tally-posting sums total count place len bytes (ok a) is e =
       rw (← ok-same e, ← positions-read count place len none bytes (sym is) .long)
-      (tally-more total (record { doc = doc; positions = a .got }) (next doc (a .rest)))
-  tally-posting total count place len bytes (refuse x) is e = refuse-ok e
+      (tally-more sums total (record { doc = doc; positions = a .got }) (next doc (a .rest)))
+  tally-posting sums total count place len bytes (refuse x) is e = refuse-ok e
 
-module _ (list meta : List ℕ) (at df place total : ℕ) (documents : Documents) (previous : Option ℕ) {whole : Result (Read ℕ)}
-    (inv : tally-from total (read-postings (df - place) place (documents-from meta documents) previous (drop at list)) ≡ whole) where
+module _ {number : List Posting → ℕ} {weigh : ℕ → ℕ → ℕ} (sums : Sums number weigh) (list meta : List ℕ) (at df place total : ℕ)
+    (documents : Documents) (previous : Option ℕ) {whole : Result (Read ℕ)}
+    (inv : tally-from number total (read-postings (df - place) place (documents-from meta documents) previous (drop at list)) ≡ whole) where
   turn : place < df
-      → tally-from total (read-posting place (documents-from meta documents) previous (drop at list) >>= λ p.
+      → tally-from number total (read-posting place (documents-from meta documents) previous (drop at list) >>= λ p.
       read-postings (df - (place + 1)) (place + 1) (documents-from meta documents) (some (p .got .doc)) (p .rest) >>= λ more.
       ok (record { got = p .got ∷ more .got; rest = more .rest })) ≡ whole
   unfolding read-postings
@@ -124,7 +145,7 @@ module _ (list meta : List ℕ) (at df place total : ℕ) (documents : Documents
           further list at (d .next .at)
           (head-read place (documents-from meta documents) previous (drop at list) (sym (answer .reads) ∙ ap (head-means list) e) .shorter)
 
-      turn-2 : tally-from total (with-positions (d .doc .0) (later (df - (place + 1)) (place + 1) (documents-from meta documents))
+      turn-2 : tally-from number total (with-positions (d .doc .0) (later (df - (place + 1)) (place + 1) (documents-from meta documents))
           (read-positions (d .count) place (d .documents .len) none (drop (d .next .at) list))) ≡ whole
       unfolding read-posting
       turn-2 = rw (← answer .reads, e) at (turn h)
@@ -132,11 +153,11 @@ module _ (list meta : List ℕ) (at df place total : ℕ) (documents : Documents
       module _ (s : PositionsStep) (found : Walked-positions list (d .count) place (d .documents .len) (d .next .at) s) where
         pub stop-at-positions : {x : Refusal} → s ≡ positions.Refused x → refuse x ≡ whole
         stop-at-positions f =
-            sym (tally-refused _ (later (df - (place + 1)) (place + 1) (documents-from meta documents)) total (read-positions _ _ _ _ _)
-            (sym (found .reads) ∙ ap (positions-mean list) f)) ∙ turn-2
+            sym (tally-refused _ (later (df - (place + 1)) (place + 1) (documents-from meta documents)) number total
+            (read-positions _ _ _ _ _) (sym (found .reads) ∙ ap (positions-mean list) f)) ∙ turn-2
 
-        pub postings-next : {n : Reader} → s ≡ positions.Next n → (at + d .count ≤ n .at)
-            × (tally-from (total + d .count)
+        pub postings-next : {n : Reader} → s ≡ positions.Next n → (at + weigh (d .doc .0) (d .count) ≤ n .at)
+            × (tally-from number (total + weigh (d .doc .0) (d .count))
             (read-postings (df - (place + 1)) (place + 1) (documents-from meta (d .documents)) (some (d .doc .0)) (drop (n .at) list))
             ≡ whole)
         postings-next {n} f =
@@ -146,16 +167,16 @@ module _ (list meta : List ℕ) (at df place total : ℕ) (documents : Documents
             let same = postings-agree (documents-from meta (d .documents)) ds (df - (place + 1)) (place + 1) (d .doc .0) (drop (n .at) list)
             (λ id g. kept id (omega arith)) in
             let told = sym (found .reads) ∙ ap (positions-mean list) f in (
-              omega arith,
+              omega (arith, sums .light (d .doc .0) (d .count)),
               rw same
-                  (sym (tally-posting _ (later (df - (place + 1)) (place + 1) ds) total (d .count) place (d .documents .len) _ _ refl told)
-                  ∙ turn-2),
+                  (sym (tally-posting _ (later (df - (place + 1)) (place + 1) ds) sums total (d .count) place (d .documents .len) _ _ refl
+                  told) ∙ turn-2),
             )
 
   pub postings-end : df ≤ place → ok (record { got = total; rest = drop at list }) ≡ whole
-  unfolding read-postings total-positions
+  unfolding read-postings
   postings-end h =
-      let s : total + 0 ≡ total = omega arith in
+      let s : total + number [] ≡ total = omega (arith, sums .of-none) in
       rw (left-none df place h, s) at inv
 
 -- ---- all postings, then the bytes after them
@@ -164,23 +185,24 @@ abbrev pub finished : Result (Read ℕ) → Tally
 finished (ok a) = cond (eqb (length (a .rest)) 0) (tally.Positions (a .got)) (tally.Refused (invalid-layout trailing-posting-bytes))
 finished (refuse x) = tally.Refused x
 
-finish : (m : Result (Read (List Posting)))
-    → tallied (m >>= λ all. check (eqb (length (all .rest)) 0) (invalid-layout trailing-posting-bytes) >>= λ _. ok (all .got))
-    ≡ finished (tally-from 0 m)
-finish (ok a) = closing (eqb (length (a .rest)) 0)
-  where
-    closing : (t : Bool) → tallied (check t (invalid-layout trailing-posting-bytes) >>= λ _. ok (a .got))
-        ≡ cond t (tally.Positions (0 + total-positions (a .got))) (tally.Refused (invalid-layout trailing-posting-bytes))
-    closing true = let s : total-positions (a .got) ≡ 0 + total-positions (a .got) = omega arith in ap tally.Positions s
-    closing false = refl
-finish (refuse x) = refl
+module _ (number : List Posting → ℕ) where
+  finish : (m : Result (Read (List Posting)))
+      → tallied-by number (m >>= λ all. check (eqb (length (all .rest)) 0) (invalid-layout trailing-posting-bytes) >>= λ _. ok (all .got))
+      ≡ finished (tally-from number 0 m)
+  finish (ok a) = closing (eqb (length (a .rest)) 0)
+    where
+      closing : (t : Bool) → tallied-by number (check t (invalid-layout trailing-posting-bytes) >>= λ _. ok (a .got))
+          ≡ cond t (tally.Positions (0 + number (a .got))) (tally.Refused (invalid-layout trailing-posting-bytes))
+      closing true = let s : number (a .got) ≡ 0 + number (a .got) = omega arith in ap tally.Positions s
+      closing false = refl
+  finish (refuse x) = refl
 
--- where the reading ended is what the decoding of all answers
-pub finishes : (df : ℕ) (documents : List Document) (bytes : List ℕ) {r : Result (Read ℕ)}
-    → r ≡ tally-from 0 (read-postings df 0 documents none bytes)
-    → finished r ≡ tallied (all-postings df documents bytes)
-unfolding all-postings
-finishes df documents bytes e = ap finished e ∙ sym (finish (read-postings df 0 documents none bytes))
+  -- where the reading ended is what the decoding of all answers
+  pub finishes : (df : ℕ) (documents : List Document) (bytes : List ℕ) {r : Result (Read ℕ)}
+      → r ≡ tally-from number 0 (read-postings df 0 documents none bytes)
+      → finished r ≡ tallied-by number (all-postings df documents bytes)
+  unfolding all-postings
+  finishes df documents bytes e = ap finished e ∙ sym (finish (read-postings df 0 documents none bytes))
 
 pub finished-short : (total : ℕ) (s : List ℕ) (at : ℕ) → at < length s
     → finished (ok (record { got = total; rest = drop at s })) ≡ tally.Refused (invalid-layout trailing-posting-bytes)

@@ -1,9 +1,11 @@
 -- What the code that checks documents and lists answers on the way, as the definitions of crate segment have it.
 use Prim.Native.Nat.{ℕ, _+_, _≤_}
 use mathlib.Core.Path.{_≡_}
-use mathlib.Core.List.{List}
+use mathlib.Core.Bool.{cond}
+use mathlib.Core.List.{List, [], _∷_}
 use mathlib.Core.Option.{Option, none}
-use lib.ListN.{drop}
+use lib.Dec.{eqb}
+use lib.ListN.{length, drop}
 use Rattle.read_cursors.specs.declared.documents.Documents.{Documents}
 use Rattle.read_lists.specs.declared.lists.PositionsStep.{PositionsStep}
 use Rattle.read_lists.specs.declared.lists.PositionsStep.the-variants as positions
@@ -51,7 +53,20 @@ pub record Walked-head (list : List ℕ) (at place : ℕ) (previous : Option ℕ
   pub reads : head-means list r ≡ read-head place (documents-from meta documents) previous (drop at list)
   pub kept : Kept meta documents r
 
+-- a number of the postings of a list that was decoded
+abbrev pub tallied-by : (List Posting → ℕ) → Result (List Posting) → Tally
+tallied-by number (ok ps) = tally.Positions (number ps)
+tallied-by number (refuse x) = tally.Refused x
+
 -- the number of positions of a list that was decoded
 abbrev pub tallied : Result (List Posting) → Tally
-tallied (ok ps) = tally.Positions (total-positions ps)
-tallied (refuse x) = tally.Refused x
+tallied r = tallied-by total-positions r
+
+-- how many positions the postings have in one document
+unfoldable pub positions-in : (doc : ℕ) → List Posting → ℕ
+positions-in doc [] = 0
+positions-in doc (p ∷ ps) = cond (eqb (p .doc) doc) (length (p .positions)) 0 + positions-in doc ps
+
+-- the number of one document's positions in a list that was decoded
+abbrev pub tallied-in : (doc : ℕ) → Result (List Posting) → Tally
+tallied-in doc r = tallied-by (positions-in doc) r

@@ -21,12 +21,13 @@ use segment::refusal::invalid_layout;
 use segment::refusal::invalid_varint;
 ghost use mathlib.Core.Path.{_≡_};
 ghost use mathlib.Core.Option.{none};
+ghost use mathlib.Core.Bool.{cond};
 ghost use lib.Dec.{eqb};
 ghost use lib.ListN.{drop};
 ghost use Rattle.common.specs.Slices.{was};
 ghost use Rattle.segment.specs.Postings.{all-postings};
 ghost use Rattle.segment.specs.Steps.{earlier};
-ghost use Rattle.read_lists.specs.Steps.{Walked-positions, Walked-head, tallied};
+ghost use Rattle.read_lists.specs.Steps.{Walked-positions, Walked-head, tallied, tallied-in};
 ghost use Rattle.read_cursors.specs.Held.{held-documents};
 
 // The reader after positions that were checked.
@@ -130,7 +131,7 @@ fn read_head(
     })
 }
 
-// How many positions a checked list has in all.
+// How many positions a checked list has, in all or in one document.
 pub enum Tally {
     Positions(usize),
     Refused(Refusal),
@@ -160,6 +161,53 @@ pub fn decode_postings_bytes(list: &[u8], df: u32, meta: &[u8], documents: u32) 
                 }
                 previous = head.doc;
                 total += head.count as usize;
+                place += 1;
+            }
+            HeadStep::Refused(x) => {
+                return Tally::Refused(x);
+            }
+        }
+    }
+    if reader.at < list.len() {
+        return Tally::Refused(invalid_layout(TRAILING_POSTING_BYTES));
+    }
+    Tally::Positions(total)
+}
+
+// How many positions a posting adds to one document's: none if it is of another.
+fn count_in(posting: DocId, count: u32, doc: DocId) -> u32
+    ensures { λ r. ⌜ r ≡ cond (eqb (posting .0) (doc .0)) count 0 ⌝ }
+{
+    if posting.0 == doc.0 {
+        return count;
+    }
+    0
+}
+
+// All postings of a list, then trailing bytes, as decode_postings_bytes; answers how many positions one document has in it.
+pub fn decode_postings_in(list: &[u8], df: u32, meta: &[u8], documents: u32, doc: DocId) -> Tally
+    ensures { λ r. ⌜ r ≡ tallied-in (doc .0) (all-postings df (held-documents documents none (was meta)) (was list)) ⌝ }
+{
+    let mut known = Documents::start(meta, documents);
+    let mut reader = Reader { at: 0 };
+    let mut previous = DocId(0);
+    let mut total: usize = 0;
+    let mut place: u32 = 0;
+    while place < df {
+        match read_head(list, reader, place, previous, meta, known) {
+            HeadStep::Next(head) => {
+                let first = head.next;
+                known = head.documents;
+                match read_positions(list, first, head.count, place, known.len) {
+                    PositionsStep::Next(next) => {
+                        reader = next;
+                    }
+                    PositionsStep::Refused(x) => {
+                        return Tally::Refused(x);
+                    }
+                }
+                previous = head.doc;
+                total += count_in(head.doc, head.count, doc) as usize;
                 place += 1;
             }
             HeadStep::Refused(x) => {

@@ -16,7 +16,7 @@ use Rattle.read_lists.specs.declared.lists.Tally.{Tally}
 use Rattle.read_lists.specs.declared.lists.Tally.the-variants as tally
 use Rattle.segment.specs.Refusals.{too-large, invalid-utf8}
 use Rattle.segment.specs.Results.{ok, refuse}
-use Rattle.segment.specs.Postings.{decode}
+use Rattle.segment.specs.Postings.{decode, total-positions}
 use Rattle.segment.specs.Opening.{open-segment}
 use Rattle.read_open.specs.Steps.{cut}
 use Rattle.read_cursors.specs.Held.{held-documents}
@@ -100,11 +100,11 @@ module _ (bytes name : List ℕ) where
         module _ {r : Tally}
             (told : r ≡ tallied (decode (held-documents (l .documents) none (cut bytes l .metadata)) (list-entry bytes t))) where
           pub list-refused : {x : Refusal} → r ≡ tally.Refused x → term-list bytes name ≡ refuse x
-          list-refused e = list-is ∙ tally-refused _ (sym e ∙ told)
+          list-refused e = list-is ∙ tally-refused total-positions _ (sym e ∙ told)
 
           pub list-decoded : {n : ℕ} → r ≡ tally.Positions n → Decoded-list bytes name (t .start) (t .df) n
           list-decoded e =
-              let (ps, ok-is, total) = tally-ok _ (sym e ∙ told) in
+              let (ps, ok-is, total) = tally-ok total-positions _ (sym e ∙ told) in
               let walk = decoded-walked bytes t _ ok-is in
               record {
                 postings = ps;

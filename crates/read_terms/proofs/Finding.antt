@@ -3,9 +3,9 @@
 use mathlib.Core.Path.{_≡_, refl, ap, _∙_}
 use mathlib.Core.List.{List}
 use mathlib.Core.Option.{some}
-use Prim.Native.Nat.{ℕ, _+_, _*_, _-_, _≤_}
+use Prim.Native.Nat.{ℕ, _+_, _*_, _-_, _≤_, _<_}
 use native.Mathlib.Omega.{arith}
-use lib.ListN.{length, length-drop}
+use lib.ListN.{length, getD, length-drop}
 use lib.Seq.{drop-drop}
 use borrow.Author.Tests.{eq-eqb, ne-eqb}
 use Rattle.crc32.specs.Crc32.{crc32Of}
@@ -17,16 +17,15 @@ use Rattle.segment.specs.declared.refusal.Refusal.{Refusal}
 use Rattle.segment.specs.Refusals.{checksum-mismatch, term-postings}
 use Rattle.segment.specs.Results.{Result, ok, refuse}
 use Rattle.segment.specs.Records.{Document, Posting, Entry, Segment, field}
-use Rattle.segment.specs.Directory.{entry-of}
-use Rattle.segment.specs.Postings.{all-postings, decode, total-positions}
-use Rattle.read_open.specs.Steps.{cut, Entry-inside, Located}
-use Rattle.read_lists.specs.Steps.{tallied}
-use Rattle.read_open.specs.Opened.{Is-open, Opened-as}
+use Rattle.segment.specs.Postings.{all-postings, decode}
+use Rattle.read_open.specs.Steps.{cut, name-at, Entry-inside, Located}
+use Rattle.read_lists.specs.Steps.{tallied-by}
+use Rattle.read_open.specs.Opened.{Is-open, Opened-as, no-entry}
 use Rattle.read_open.proofs.Checks.{to-end}
 use Rattle.read_open.proofs.Lookup.{located-at, located-nowhere}
 use Rattle.read_terms.specs.declared.find.TermList.{TermList}
 use Rattle.read_terms.specs.declared.find.TermFound.the-variants as found
-use Rattle.read_terms.specs.Steps.{entry-named, list-entry, Term-found}
+use Rattle.read_terms.specs.Steps.{entry-named, list-entry, Entry-list, Term-found}
 
 -- where entry i's list lies in the lists
 abbrev list-at : List ℕ → Layout → ℕ → ℕ
@@ -35,42 +34,54 @@ list-at bytes l i = field 8 (i * 32 + 8) (cut bytes l .directory)
 abbrev list-size : List ℕ → Layout → ℕ → ℕ
 list-size bytes l i = field 8 (i * 32 + 16) (cut bytes l .directory)
 
--- an entry that was located in an open segment
-module _ {bytes : List ℕ} {l : Layout} {name : List ℕ} (is : Opened-as bytes l) (i : ℕ)
-    (at : Located (cut bytes l .directory) (cut bytes l .names) (l .terms) name (place.At i)) where
+-- an entry of an open segment
+module _ {bytes : List ℕ} {l : Layout} (is : Opened-as bytes l) (i : ℕ) (below : i < l .terms) where
   pub entry-inside : Entry-inside (cut bytes l .directory) (cut bytes l .names) i
-  entry-inside = is .1 .sorted .inside i (at .0)
+  entry-inside = is .1 .sorted .inside i below
 
   -- the list lies in the bytes, so that its ends fit
   pub list-ends : l .lists + list-at bytes l i + list-size bytes l i ≤ length bytes
   list-ends =
-      let fits = rw (to-end bytes (l .lists)) at (is .1 .list i (at .0)) in
+      let fits = rw (to-end bytes (l .lists)) at (is .1 .list i below) in
       omega (arith, length-drop (l .lists) bytes, is .1 .ordered .lists)
 
   module _ (t : TermList) (place : t .entry ≡ i) (start : t .start ≡ l .lists + list-at bytes l i)
       (end : t .end ≡ t .start + list-size bytes l i) (df : t .df ≡ field 4 (i * 32 + 24) (cut bytes l .directory))
       (checksum : t .checksum ≡ field 4 (i * 32 + 28) (cut bytes l .directory)) where
-    entry-is : (s : Segment) → Is-open bytes l s → entry-of (s .entries) name ≡ some (entry-named name bytes t)
+    entry-is : (s : Segment) → Is-open bytes l s
+        → getD (s .entries) i no-entry ≡ entry-named (name-at (cut bytes l .directory) (cut bytes l .names) i) bytes t
     entry-is s is-open =
         let size : t .end - t .start ≡ list-size bytes l i = omega arith in
-        located-at is-open name i at ∙ ap some (is-open .entry i (at .0) ∙
-        rw (at .1, size, start, df, checksum, to-end bytes (l .lists), drop-drop (list-at bytes l i) (l .lists) bytes))
+        is-open .entry i below ∙
+        rw (size, start, df, checksum, to-end bytes (l .lists), drop-drop (list-at bytes l i) (l .lists) bytes)
 
-    pub found-list : Term-found bytes l name (found.List t)
-    found-list = (record { in-order = omega arith; inside = omega (arith, list-ends) }, rw place (at .1), entry-is, rw place (at .0))
+    pub entry-listed : Entry-list bytes l i t
+    entry-listed =
+        record { inside = record { in-order = omega arith; inside = omega (arith, list-ends) }; place = place; is = entry-is }
+
+-- an entry that was located by its name
+pub found-list : {bytes : List ℕ} {l : Layout} {name : List ℕ} {i : ℕ} {t : TermList}
+    → Located (cut bytes l .directory) (cut bytes l .names) (l .terms) name (place.At i) → Entry-list bytes l i t
+    → Term-found bytes l name (found.List t)
+found-list {name = name} {i = i} at e = (
+  e .inside,
+  rw (e .place) (at .1),
+  λ s is. located-at is name i at ∙ ap some (rw (at .1) at (e .is s is)),
+  rw (e .place) (at .0),
+)
 
 pub found-none : {bytes : List ℕ} {l : Layout} {name : List ℕ}
     → Located (cut bytes l .directory) (cut bytes l .names) (l .terms) name place.Absent → Term-found bytes l name found.Absent
 found-none {name = name} at s is = located-nowhere is name at
 
 -- the checksum of a list, then its postings
-module _ (documents : List Document) (e : Entry) {sum : ℕ} (is : sum ≡ crc32Of (e .list)) where
-  pub sum-differs : (sum ≡ e .checksum → ⊥) → tally.Refused (checksum-mismatch term-postings) ≡ tallied (decode documents e)
+module _ (number : List Posting → ℕ) (documents : List Document) (e : Entry) {sum : ℕ} (is : sum ≡ crc32Of (e .list)) where
+  pub sum-differs : (sum ≡ e .checksum → ⊥) → tally.Refused (checksum-mismatch term-postings) ≡ tallied-by number (decode documents e)
   unfolding decode
   sum-differs n = rw (← is, ne-eqb sum (e .checksum) n)
 
-  pub sum-agrees : {r : Tally} → sum ≡ e .checksum → r ≡ tallied (all-postings (e .df) documents (e .list))
-      → r ≡ tallied (decode documents e)
+  pub sum-agrees : {r : Tally} → sum ≡ e .checksum → r ≡ tallied-by number (all-postings (e .df) documents (e .list))
+      → r ≡ tallied-by number (decode documents e)
   unfolding decode
   sum-agrees same r = rw (← is, eq-eqb sum (e .checksum) same) r
 
@@ -81,11 +92,12 @@ unfolding decode
 nameless documents name bytes l = refl
 
 -- a tally that was answered is of postings, or of the refusal
-pub tally-ok : (r : Result (List Posting)) {n : ℕ} → tally.Positions n ≡ tallied r
-    → (ps : List Posting) × (r ≡ ok ps) × (total-positions ps ≡ n)
-tally-ok (ok ps) e = (ps, refl, cc)
-tally-ok (refuse x) e = let z : _≡_ {A = ℕ} 0 1 = cc in absurd (omega arith)
+module _ (number : List Posting → ℕ) where
+  pub tally-ok : (r : Result (List Posting)) {n : ℕ} → tally.Positions n ≡ tallied-by number r
+      → (ps : List Posting) × (r ≡ ok ps) × (number ps ≡ n)
+  tally-ok (ok ps) e = (ps, refl, cc)
+  tally-ok (refuse x) e = let z : _≡_ {A = ℕ} 0 1 = cc in absurd (omega arith)
 
-pub tally-refused : (r : Result (List Posting)) {x : Refusal} → tally.Refused x ≡ tallied r → r ≡ refuse x
-tally-refused (ok ps) e = let z : _≡_ {A = ℕ} 0 1 = cc in absurd (omega arith)
-tally-refused (refuse y) e = cc
+  pub tally-refused : (r : Result (List Posting)) {x : Refusal} → tally.Refused x ≡ tallied-by number r → r ≡ refuse x
+  tally-refused (ok ps) e = let z : _≡_ {A = ℕ} 0 1 = cc in absurd (omega arith)
+  tally-refused (refuse y) e = cc

@@ -4,3 +4,4 @@ pub mod Finding
 pub mod Longer
 pub mod Asking
 pub mod Turns
+pub mod In-document

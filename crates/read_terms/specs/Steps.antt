@@ -3,12 +3,12 @@ use Prim.Native.Nat.{ℕ, _≤_, _<_}
 use mathlib.Core.Path.{_≡_}
 use mathlib.Core.List.{List, [], map}
 use mathlib.Core.Option.{none, some}
-use lib.ListN.{length, drop}
+use lib.ListN.{length, drop, getD}
 use Rattle.read_open.specs.declared.header.Layout.{Layout}
 use Rattle.segment.specs.Records.{Entry, Segment, between, Posting}
 use Rattle.segment.specs.Directory.{entry-of}
 use Rattle.read_open.specs.Steps.{cut, name-at}
-use Rattle.read_open.specs.Opened.{Is-open}
+use Rattle.read_open.specs.Opened.{Is-open, no-entry}
 use Rattle.read_terms.specs.declared.find.TermList.{TermList}
 use Rattle.read_terms.specs.declared.find.TermFound.{TermFound}
 use Rattle.read_terms.specs.declared.find.TermFound.the-variants as found
@@ -33,6 +33,13 @@ entry-named name bytes l = record { name = name; list = bytes-of-list bytes l; d
 
 abbrev pub list-entry : List ℕ → TermList → Entry
 list-entry bytes l = entry-named [] bytes l
+
+-- the list of the entry at an index of the directory, whichever segment the layout is said to be of
+pub record Entry-list (bytes : List ℕ) (l : Layout) (i : ℕ) (t : TermList) : Type 0 where
+  pub inside : List-inside bytes t
+  pub place : t .entry ≡ i
+  pub is : (s : Segment) → Is-open bytes l s
+      → getD (s .entries) i no-entry ≡ entry-named (name-at (cut bytes l .directory) (cut bytes l .names) i) bytes t
 
 -- the entry of a name in the segment, whichever segment the layout is said to be of
 abbrev pub Term-found : (bytes : List ℕ) (l : Layout) (name : List ℕ) → TermFound → Type 0

@@ -2,6 +2,7 @@
 use crc32::checksum::crc32;
 use read_lists::lists::Tally;
 use read_lists::lists::decode_postings_bytes;
+use read_lists::lists::decode_postings_in;
 use read_open::directory::TermEntry;
 use read_open::directory::term_entry;
 use read_open::header::Layout;
@@ -9,18 +10,19 @@ use segment::fixed::ENTRY_SIZE;
 use segment::fixed::HEADER_SIZE;
 use segment::fixed::read_u32_at;
 use segment::fixed::read_usize_at;
+use segment::ids::DocId;
 use segment::refusal::TERM_POSTINGS;
 use segment::refusal::checksum_mismatch;
 ghost use mathlib.Core.Path.{_≡_};
 ghost use mathlib.Core.Option.{none};
-ghost use Prim.Native.Nat.{_≤_};
+ghost use Prim.Native.Nat.{_≤_, _<_};
 ghost use lib.ListN.{length};
 ghost use Rattle.common.specs.Slices.{was};
 ghost use Rattle.read_open.specs.Steps.{Sections-follow, cut};
 ghost use Rattle.read_cursors.specs.Held.{held-documents};
 ghost use Rattle.segment.specs.Postings.{decode};
-ghost use Rattle.read_lists.specs.Steps.{tallied};
-ghost use Rattle.read_terms.specs.Steps.{List-inside, Term-found, list-entry};
+ghost use Rattle.read_lists.specs.Steps.{tallied, tallied-in};
+ghost use Rattle.read_terms.specs.Steps.{List-inside, Entry-list, Term-found, list-entry};
 ghost use Rattle.read_open.specs.Opened.{Opened-as};
 
 // A term's list: its entry's index in the directory, its offsets in the segment, how many postings it has, its checksum.
@@ -37,6 +39,26 @@ pub enum TermFound {
     Absent,
 }
 
+// The list of the entry at an index of the directory.
+pub fn entry_list(bytes: &[u8], at: Layout, i: usize) -> TermList
+    requires { ⌜ Opened-as (now bytes) at × (i < at .terms) ⌝ }
+    ensures { λ r. ⌜ Entry-list (was bytes) at i r ⌝ }
+{
+    let names = at.names;
+    let lists = at.lists;
+    let offset = i * ENTRY_SIZE;
+    let dir = &bytes[HEADER_SIZE..names];
+    let start = lists + read_usize_at(dir, offset + 8);
+    let end = start + read_usize_at(dir, offset + 16);
+    TermList {
+        entry: i,
+        start: start,
+        end: end,
+        df: read_u32_at(dir, offset + 24),
+        checksum: read_u32_at(dir, offset + 28),
+    }
+}
+
 // The list of the term with a name.
 pub fn find_term(bytes: &[u8], at: Layout, name: &[u8]) -> TermFound
     requires { ⌜ Opened-as (now bytes) at ⌝ }
@@ -44,26 +66,13 @@ pub fn find_term(bytes: &[u8], at: Layout, name: &[u8]) -> TermFound
 {
     let names = at.names;
     let metadata = at.metadata;
-    let lists = at.lists;
     match term_entry(
         &bytes[HEADER_SIZE..names],
         &bytes[names..metadata],
         at.terms,
         name,
     ) {
-        TermEntry::At(i) => {
-            let offset = i * ENTRY_SIZE;
-            let dir = &bytes[HEADER_SIZE..names];
-            let start = lists + read_usize_at(dir, offset + 8);
-            let end = start + read_usize_at(dir, offset + 16);
-            TermFound::List(TermList {
-                entry: i,
-                start: start,
-                end: end,
-                df: read_u32_at(dir, offset + 24),
-                checksum: read_u32_at(dir, offset + 28),
-            })
-        }
+        TermEntry::At(i) => TermFound::List(entry_list(bytes, at, i)),
         TermEntry::Absent => TermFound::Absent,
     }
 }
@@ -86,5 +95,27 @@ pub fn decode_postings(bytes: &[u8], at: Layout, list: TermList) -> Tally
         list.df,
         &bytes[metadata..lists],
         at.documents,
+    )
+}
+
+// The whole list decoded as decode_postings does: its checksum, then each posting; how many positions one document has in it.
+pub fn decode_postings_for(bytes: &[u8], at: Layout, list: TermList, doc: DocId) -> Tally
+    requires { ⌜ Sections-follow (now bytes) at × List-inside (now bytes) list ⌝ }
+    ensures { λ r. ⌜ r ≡ tallied-in (doc .0) (decode (held-documents (at .documents) none (cut (was bytes) at .metadata))
+        (list-entry (was bytes) list)) ⌝ }
+{
+    let start = list.start;
+    let end = list.end;
+    if crc32(&bytes[start..end]) != list.checksum {
+        return Tally::Refused(checksum_mismatch(TERM_POSTINGS));
+    }
+    let metadata = at.metadata;
+    let lists = at.lists;
+    decode_postings_in(
+        &bytes[start..end],
+        list.df,
+        &bytes[metadata..lists],
+        at.documents,
+        doc,
     )
 }

@@ -1,4 +1,5 @@
 use borrow.Author.Needs.{needs}
+use Rattle.segment.specs.Postings.{total-positions}
 use Rattle.read_terms.proofs.Finding.{sum-differs, sum-agrees}
 use Rattle.read_terms.proofs.find.decode_postings.Statement.{statement}
 use Rattle.read_terms.proofs.find.decode_postings.Tie as tie
@@ -21,7 +22,7 @@ checksum-mismatch-requires c κs = search needs
 returns : tie.Need-returns
 returns c =
     let i = c .before in
-    rw (c .checksum-mismatch .ensures) (sum-differs _ _ (i .before .before .crc32 .ensures) (i .if1 .taken))
+    rw (c .checksum-mismatch .ensures) (sum-differs total-positions _ _ (i .before .before .crc32 .ensures) (i .if1 .taken))
 
 sub-decode-postings-bytes : tie.Need-sub-decode-postings-bytes
 sub-decode-postings-bytes c = search needs
@@ -47,7 +48,7 @@ decode-postings-bytes-requires c κs = search needs
 returns-2 : tie.Need-returns-2
 returns-2 c =
     let d = c .before .before .before in
-    sum-agrees _ _ (d .before .before .crc32 .ensures) (d .if1 .left) (c .decode-postings-bytes .ensures)
+    sum-agrees total-positions _ _ (d .before .before .crc32 .ensures) (d .if1 .left) (c .decode-postings-bytes .ensures)
 
 pub decode-postings-spec : {M : Type 1} → statement M
 decode-postings-spec =
