@@ -9,7 +9,7 @@ use native.Mathlib.Omega.{arith}
 use lib.ListN.{length, getD, length-append}
 use Rattle.common.specs.Stores.{Stored}
 use Rattle.common.proofs.Loops.{left-suc, left-none}
-use Rattle.common.proofs.Stores.{To-store}
+use Rattle.common.proofs.Stores.{To-store, To-store-parts, to-start, to-room, to-next, to-end}
 use Rattle.segment.specs.declared.refusal.Refusal.{Refusal}
 use Rattle.segment.specs.declared.replies.Counted.{Counted}
 use Rattle.segment.specs.declared.replies.Counted.the-variants as counted
@@ -23,7 +23,7 @@ use Rattle.read_open.specs.Opened.{Is-open, no-entry}
 use Rattle.calls.specs.Sheet.{sound-lines}
 use Rattle.calls.specs.Replies.{count-of}
 use Rattle.show_sheet.specs.declared.bar.Bar.{Bar}
-use Rattle.show_sheet.specs.Steps.{documents-in, entry-in, line-in, lines-in, text-in, Decoded}
+use Rattle.show_sheet.specs.Steps.{documents-in, entry-in, line-in, lines-in, text-in, Decoded, Room-for}
 
 -- ---- what the directory's lists decode to, drawn, is the entries' lines
 
@@ -89,9 +89,15 @@ behind-stops : (size : ℕ) (line lines : Result (List ℕ)) {x : Refusal} → c
 behind-stops size (ok a) lines e = let z : _≡_ {A = ℕ} 0 1 = cc in absurd (omega arith)
 behind-stops size (refuse x) lines e = sym e
 
-pub measured-all : (r : Result (List ℕ)) → more 0 r ≡ count-of r
+measured-all : (r : Result (List ℕ)) → more 0 r ≡ count-of r
 measured-all (ok text) = let z : 0 + length text ≡ length text = omega arith in ap counted.Count z
 measured-all (refuse x) = refl
+
+pub measured-start : (bytes : List ℕ) (l : Layout) (bar : Bar) {n : ℕ} → n ≡ l .terms
+    → more 0 (lines-in bytes l bar (n - 0) 0) ≡ count-of (lines-in bytes l bar (l .terms) 0)
+measured-start bytes l bar {n} e =
+    let all : n - 0 ≡ l .terms = omega arith in
+    ap (λ k. more 0 (lines-in bytes l bar k 0)) all ∙ measured-all (lines-in bytes l bar (l .terms) 0)
 
 module _ (bytes : List ℕ) (l : Layout) (bar : Bar) (n i size : ℕ) {whole : Counted}
     (inv : more size (lines-in bytes l bar (n - i) i) ≡ whole) where
@@ -148,14 +154,44 @@ module _ (bytes : List ℕ) (l : Layout) (bar : Bar) (n i : ℕ) (h : i < n) (d 
   apart : Parts line lines
   apart = parts line lines (d .0, sym (lines-next bytes l bar n i h) ∙ d .1)
 
-  pub line-decoded : Decoded line
+  line-decoded : Decoded line
   line-decoded = apart .first
 
-  pub lines-decoded : Decoded lines
+  lines-decoded : Decoded lines
   lines-decoded = apart .others
 
-  pub line-then-lines : text-in (lines-in bytes l bar (n - i) i) ≡ text-in line ++ text-in lines
+  line-then-lines : text-in (lines-in bytes l bar (n - i) i) ≡ text-in line ++ text-in lines
   line-then-lines = ap text-in (lines-next bytes l bar n i h) ∙ apart .together
 
-pub no-lines : (bytes : List ℕ) (l : Layout) (bar : Bar) (n i : ℕ) → n ≤ i → text-in (lines-in bytes l bar (n - i) i) ≡ []
+no-lines : (bytes : List ℕ) (l : Layout) (bar : Bar) (n i : ℕ) → n ≤ i → text-in (lines-in bytes l bar (n - i) i) ≡ []
 no-lines bytes l bar n i h = ap text-in (lines-end bytes l bar n i h)
+
+-- the lines that are still to be stored
+abbrev pub Lines-left : (bytes : List ℕ) (l : Layout) (bar : Bar) (from : ℕ) (entry : List ℕ) (n i next : ℕ) (out : List ℕ) → Type 0
+Lines-left bytes l bar from entry n i next out =
+    Decoded (lines-in bytes l bar (n - i) i)
+    × To-store (text-in (lines-in bytes l bar (l .terms) 0)) from entry (text-in (lines-in bytes l bar (n - i) i)) next out
+
+module _ (bytes : List ℕ) (l : Layout) (bar : Bar) (from : ℕ) (entry : List ℕ) where
+  pub left-all : {n : ℕ} → n ≡ l .terms → Room-for (lines-in bytes l bar (l .terms) 0) entry from
+      → Lines-left bytes l bar from entry n 0 from entry
+  left-all {n} e r =
+      let all : n - 0 ≡ l .terms = omega arith in
+      rw all (r .decoded, to-start (r .room))
+
+  module _ {n i next : ℕ} {out : List ℕ} (h : i < n) (s : Lines-left bytes l bar from entry n i next out) where
+    apart-left : To-store-parts (text-in (lines-in bytes l bar (l .terms) 0)) from entry
+        (text-in (line-in (documents-in bytes l) bar (entry-in bytes l i)) ∷ []) (text-in (lines-in bytes l bar (n - (i + 1)) (i + 1))) next out
+    apart-left = record { all = rw (line-then-lines bytes l bar n i h (s .0)) at (s .1) }
+
+    pub left-room : Room-for (line-in (documents-in bytes l) bar (entry-in bytes l i)) out next
+    left-room = record { decoded = line-decoded bytes l bar n i h (s .0); room = to-room apart-left }
+
+    pub left-next : {next′ : ℕ} {out′ : List ℕ}
+        → Stored (text-in (line-in (documents-in bytes l) bar (entry-in bytes l i))) next out next′ out′
+        → Lines-left bytes l bar from entry n (i + 1) next′ out′
+    left-next t = (lines-decoded bytes l bar n i h (s .0), to-next apart-left t .all)
+
+  pub left-none-more : {n i next : ℕ} {out : List ℕ} → n ≤ i → Lines-left bytes l bar from entry n i next out
+      → Stored (text-in (lines-in bytes l bar (l .terms) 0)) from entry next out
+  left-none-more {n} {i} h s = to-end (rw (no-lines bytes l bar n i h) at (s .1))
