@@ -1,18 +1,18 @@
 -- The whole sheet in the lent buffer: its length, the reply, and what the buffer holds.
 -- Assumes nothing.
 use mathlib.Core.Path.{_≡_, refl, sym, ap, _∙_}
-use mathlib.Core.Bool.{Bool, true, false}
+use mathlib.Core.Bool.{Bool, true, false, cond}
 use mathlib.Core.List.{List, [], _∷_, _++_}
 use mathlib.Core.Option.{Option, none, some}
-use Prim.Native.Nat.{ℕ, _+_, _^_, _≤_, _<_}
+use Prim.Native.Nat.{ℕ, zero, suc, _+_, _*_, _≤_, _<_}
 use native.Mathlib.Nat.{zero-add}
 use native.Mathlib.Omega.{arith}
-use lib.Dec.{leb}
+use lib.Dec.{leb, eqb}
 use lib.ListN.{length, replicate, length-append, length-replicate}
-use borrow.Author.Tests.{le-leb, lt-leb, leb-true}
+use borrow.Author.Tests.{le-leb, lt-leb, leb-true, eqb-true}
 use Rattle.common.specs.Stores.{Stored}
 use Rattle.common.proofs.Sets.{sets-front}
-use Rattle.common.proofs.Stores.{stored-append}
+use Rattle.common.proofs.Stores.{stored-append, stored-length}
 use Rattle.segment.specs.declared.refusal.Refusal.{Refusal}
 use Rattle.segment.specs.declared.replies.Counted.{Counted}
 use Rattle.segment.specs.declared.replies.Counted.the-variants.{Count, Refused}
@@ -26,17 +26,20 @@ use Rattle.segment.proofs.Accepted.{check-gives}
 use Rattle.segment.proofs.Binds.{ok-same, refuse-ok}
 use Rattle.read_open.specs.declared.header.Layout.{Layout}
 use Rattle.read_open.specs.declared.header.Opening.the-variants as opening
-use Rattle.read_open.specs.Opened.{Is-open, Opens}
+use Rattle.read_open.specs.Steps.{cut}
+use Rattle.read_open.specs.Opened.{Opens}
+use Rattle.read_cursors.proofs.Documents-held.{Rising, held-rise}
 use Rattle.calls.specs.Listing.{column}
 use Rattle.calls.specs.Sheet.{heading, sound-lines, sheet, known-bar, bar-sheet, sheet-into}
 use Rattle.calls.specs.Replies.{count-of, filled}
 use Rattle.show_columns.proofs.Columns.{column-length}
 use Rattle.show_sheet.specs.declared.bar.Bar.{Bar}
 use Rattle.show_sheet.specs.declared.bar.BarFound.the-variants as found
-use Rattle.show_sheet.specs.Steps.{documents-in, paper-length, bar-found, On-paper, entry-in, lines-in, text-in, into, sheet-in}
-use Rattle.show_sheet.specs.Steps.{Sheet-drawn}
+use Rattle.show_sheet.specs.Steps.{documents-in, paper-length, bar-found, On-paper, entry-in, line-in, lines-in, text-in, Room-for}
+use Rattle.show_sheet.specs.Steps.{into, sheet-in, Sheet-drawn}
 use Rattle.show_sheet.specs.Promise.{Sheet-answered}
-use Rattle.show_sheet.proofs.Lines.{drawn, entries-drawn}
+use Rattle.show_sheet.proofs.Entries.{measured-most}
+use Rattle.show_sheet.proofs.Lines.{drawn, entries-drawn, measured-decoded, measured-length}
 
 -- ---- the first line
 
@@ -50,6 +53,48 @@ pub heading-stored : (id len : ℕ) {out o₁ o₂ o₃ o₄ : List ℕ} {n₁ n
     → Stored (heading id len) 0 out n₄ o₄
 unfolding heading
 heading-stored id len a b c d = stored-append (stored-append (stored-append a b) c) d
+
+-- ids have 32 bits
+known-small : (low : ℕ) (ds : List Document) → Rising low ds → (id : ℕ) {len : ℕ} → length-of ds id ≡ some len → id < 10000000000
+unfolding length-of
+known-small low [] r id e = let z : _≡_ {A = ℕ} 0 1 = cc in absurd (omega arith)
+known-small low (d ∷ ds) r id {len} e = by (eqb (d .id) id) refl e (λ f. known-small (suc (d .id)) ds (r .3) id f)
+  where
+    by : (t : Bool) → eqb (d .id) id ≡ t → cond t (some (d .len)) (length-of ds id) ≡ some len
+        → (length-of ds id ≡ some len → id < 10000000000)
+        → id < 10000000000
+    by true is e later = omega (arith, eqb-true (d .id) id is)
+    by false is e later = later e
+
+pub on-paper-wide : (bytes : List ℕ) (l : Layout) (bar : Bar) → On-paper bytes l bar → length (heading (bar .id .0) (bar .len)) ≡ 81
+on-paper-wide bytes l bar p =
+    heading-length (bar .id .0) (bar .len)
+    (known-small 0 (documents-in bytes l) (held-rise (l .documents) none (cut bytes l .metadata)) (bar .id .0) (p .known))
+    (omega (arith, p .short))
+
+-- ---- how long it can be
+
+abbrev Most : ℕ → Result (List ℕ) → Type 0
+Most n r = (k : ℕ) → Count k ≡ count-of r → k ≤ n
+
+behind-most : (n m : ℕ) (a b : Result (List ℕ)) → Most n a → Most m b → Most (n + m) (a >>= λ line. b >>= λ more. ok (line ++ more))
+behind-most n m (ok x) (ok y) f g k e =
+    let many : k ≡ length (x ++ y) = cc in
+    omega (arith, length-append x y, f (length x) refl, g (length y) refl)
+behind-most n m (ok x) (refuse y) f g k e = let z : _≡_ {A = ℕ} 0 1 = cc in absurd (omega arith)
+behind-most n m (refuse x) b f g k e = let z : _≡_ {A = ℕ} 0 1 = cc in absurd (omega arith)
+
+lines-most : (bytes : List ℕ) (l : Layout) (bar : Bar) → On-paper bytes l bar → (n i : ℕ) → Most (117 * n) (lines-in bytes l bar n i)
+unfolding lines-in
+lines-most bytes l bar p zero i k e = let none-there : k ≡ 0 = cc in omega arith
+lines-most bytes l bar p (suc n) i k e =
+    let most = behind-most 117 (117 * n) (line-in (documents-in bytes l) bar (entry-in bytes l i)) (lines-in bytes l bar n (suc i))
+    (λ j f. measured-most bytes l bar i p f) (lines-most bytes l bar p n (suc i)) k e in
+    omega arith
+
+pub sheet-most : (bytes : List ℕ) (l : Layout) (bar : Bar) → On-paper bytes l bar → {k : ℕ}
+    → Count k ≡ count-of (lines-in bytes l bar (l .terms) 0) → k ≤ 117 * l .terms
+sheet-most bytes l bar p {k} e = lines-most bytes l bar p (l .terms) 0 k e
 
 -- ---- with room, and without
 
@@ -105,6 +150,12 @@ module _ (bytes : List ℕ) (l : Layout) (bar : Bar) (out : List ℕ) where
   module _ {k : ℕ} (wide : length first ≡ 81) (e : Count k ≡ count-of lines) where
     pub drawn-short : length out < 81 + k → Sheet-drawn bytes l bar out (Refused (no-room 1 (81 + k))) out
     drawn-short h = let r = whole-short first lines wide e (length out) h in record { reply = rw r; left = rw r }
+
+    pub lines-fit : {o₁ : List ℕ} {n₁ : ℕ} → 81 + k ≤ length out → Stored first 0 out n₁ o₁ → Room-for lines o₁ n₁
+    lines-fit h a = record {
+      decoded = measured-decoded lines e;
+      room = omega (arith, a .past, stored-length a, measured-length lines e);
+    }
 
     pub drawn-fits : {o₁ o₂ : List ℕ} {n₁ n₂ : ℕ} → 81 + k ≤ length out → Stored first 0 out n₁ o₁ → Stored (text-in lines) n₁ o₁ n₂ o₂
         → Sheet-drawn bytes l bar out (Count n₂) o₂
