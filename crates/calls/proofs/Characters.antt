@@ -58,7 +58,7 @@ name-by-characters width values ss =
     ∙ ap (λ l. text (map shown (take width values)) ++ l) (text-spaces (width - length values))
 
 module _ (width : ℕ) (name : List ℕ) where
-  column-scalars : Scalars (fitted width (decoded name))
+  pub column-scalars : Scalars (fitted width (decoded name))
   column-scalars = fitted-scalars width (decoded name) (decodes-front name .0)
 
   pub column-utf8 : Is-utf8 (name-column width name)

@@ -43,12 +43,12 @@ of-one (p ∷ ps) d r = step (eqb (p .doc) d) refl (of-one ps d (rising-tail (p 
 abbrev named : List Term → List (List ℕ)
 named ts = map (λ t. t .name) ts
 
-names-above : (n : List ℕ) (ns : List (List ℕ)) → Names-rising (n ∷ ns) → (m : List ℕ) → m ∈ ns → precedes n m ≡ true
+pub names-above : (n : List ℕ) (ns : List (List ℕ)) → Names-rising (n ∷ ns) → (m : List ℕ) → m ∈ ns → precedes n m ≡ true
 names-above n [] r m k = absurd k
 names-above n (x ∷ ns) r m (inl e) = rw e (precedes-is n x .1 (r .0))
 names-above n (x ∷ ns) r m (inr k) = precedes-transitive n x m (precedes-is n x .1 (r .0)) (names-above x ns (r .1) m k)
 
-names-tail : (n : List ℕ) (ns : List (List ℕ)) → Names-rising (n ∷ ns) → Names-rising ns
+pub names-tail : (n : List ℕ) (ns : List (List ℕ)) → Names-rising (n ∷ ns) → Names-rising ns
 names-tail n [] r = tt
 names-tail n (x ∷ ns) r = r .1
 

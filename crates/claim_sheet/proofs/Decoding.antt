@@ -1,0 +1,100 @@
+-- What decoding gives of every sound: its documents rise, the bar's positions rise and are below its length. What opening gives: ids below
+-- 2 ^ 32.
+-- Assumes nothing.
+use mathlib.Core.Path.{_≡_, refl, sym, ap, _∙_, subst}
+use mathlib.Core.Bool.{Bool, true, false, cond}
+use mathlib.Core.List.{List, [], _∷_, map}
+use mathlib.Core.Option.{Option, none, some}
+use Prim.Native.Nat.{ℕ, suc, _^_, _<_}
+use native.Mathlib.Omega.{arith}
+use lib.Dec.{eqb}
+use borrow.Author.Tests.{eqb-true}
+use Rattle.common.specs.Elements.{_∈_, Rising}
+use Rattle.common.proofs.Elements.{each}
+use Rattle.crc32.specs.Crc32.{crc32Of}
+use Rattle.segment.specs.Refusals.{term-postings, checksum-mismatch}
+use Rattle.segment.specs.Results.{ok}
+use Rattle.segment.specs.Records.{Document, Posting, Term, Entry, Segment}
+use Rattle.segment.specs.Metadata.{metadata, length-of}
+use Rattle.segment.specs.Postings.{decode}
+use Rattle.segment.specs.Directory.{directory}
+use Rattle.segment.specs.Opening.{sections, checksums, contents, open-segment}
+use Rattle.segment.specs.Contents.{decode-all}
+use Rattle.segment.proofs.Binds.{bind-gives, ok-same}
+use Rattle.segment.proofs.Accepted.{check-gives}
+use Rattle.calls.specs.Lookups.{positions-of}
+use Rattle.calls.proofs.Rising.{After, after-none, after-cons}
+use Rattle.calls.proofs.Posted.{docs}
+use Rattle.calls.proofs.Below.{decoded-below}
+use Rattle.read_cursors.specs.Held.{Posting-at, posting-of, held-postings, Rises, All-full}
+use Rattle.read_cursors.proofs.Posting-reads.{all-postings-read}
+use Rattle.read_cursors.proofs.Documents-held as held
+use Rattle.claim_sheet.proofs.Hitting.{Fits}
+
+-- ---- a list that was decoded
+
+rises-after : (previous : Option ℕ) (xs : List ℕ) → Rises previous xs → After previous xs
+rises-after previous [] r = after-none previous
+rises-after previous (x ∷ xs) (up, r) = after-cons previous x xs up (rises-after (some x) xs r)
+
+docs-rise : (previous : Option ℕ) (ss : List Posting-at) → All-full previous ss → After previous (docs (map posting-of ss))
+docs-rise previous [] f = after-none previous
+docs-rise previous (s ∷ ss) (up, full, f) = after-cons previous (s .doc) (docs (map posting-of ss)) up (docs-rise (some (s .doc)) ss f)
+
+own-rise : (previous : Option ℕ) (ss : List Posting-at) (id : ℕ) → All-full previous ss → Rising (positions-of (map posting-of ss) id)
+unfolding positions-of
+own-rise previous [] id f = tt
+own-rise previous (s ∷ ss) id (up, full, f) = step (eqb (s .doc) id) (own-rise (some (s .doc)) ss id f)
+  where
+    step : (t : Bool) → Rising (positions-of (map posting-of ss) id)
+        → Rising (cond t (posting-of s .positions) (positions-of (map posting-of ss) id))
+    step true later = rises-after none (posting-of s .positions) (full .rise)
+    step false later = later
+
+decode-rises : (documents : List Document) (e : Entry) (id : ℕ) {ps : List Posting} → decode documents e ≡ ok ps
+    → Rising (docs ps) × Rising (positions-of ps id)
+unfolding decode
+decode-rises documents e id d =
+    let all = check-gives (eqb (crc32Of (e .list)) (e .checksum)) (checksum-mismatch term-postings) _ d .1 in
+    let r = all-postings-read (e .df) documents (e .list) all in
+    subst (λ (ps : List Posting). Rising (docs ps) × Rising (positions-of ps id)) (r .is)
+    (docs-rise none (held-postings (e .df) none (e .list)) (r .full), own-rise none (held-postings (e .df) none (e .list)) id (r .full))
+
+-- ---- every list of the directory
+
+module _ (documents : List Document) (id len : ℕ) (known : length-of documents id ≡ some len) where
+  pub all-fit : (es : List Entry) {ts : List Term} → decode-all documents es ≡ ok ts → (t : Term) → t ∈ ts → Fits id len t
+  unfolding decode-all
+  all-fit [] d t m = absurd (subst (λ (ts : List Term). t ∈ ts) (sym (ok-same d)) m)
+  all-fit (e ∷ es) d t m =
+      let (ps, is, f) = bind-gives (decode documents e) _ d in
+      let (more, those, g) = bind-gives (decode-all documents es) _ f in
+      let (r, own) = decode-rises documents e id is in
+      each (Fits id len) (record { name = e .name; postings = ps }) more
+      (record { documents-rise = r; rise = own; below = decoded-below documents id len known e is })
+      (all-fit es those) t (subst (λ (ts : List Term). t ∈ ts) (sym (ok-same g)) m)
+
+-- ---- ids
+
+id-small : (low : ℕ) (ds : List Document) → held.Rising low ds → (id len : ℕ) → length-of ds id ≡ some len → id < 2 ^ 32
+unfolding length-of
+id-small low [] r id len e = let z : _≡_ {A = ℕ} 0 1 = cc in absurd (omega arith)
+id-small low (d ∷ ds) (up, small, short, r) id len e = step (eqb (d .id) id) refl e (id-small (suc (d .id)) ds r id len)
+  where
+    step : (t : Bool) → eqb (d .id) id ≡ t → cond t (some (d .len)) (length-of ds id) ≡ some len
+        → (length-of ds id ≡ some len → id < 2 ^ 32) → id < 2 ^ 32
+    step true t e later = rw (eqb-true (d .id) id t) at small
+    step false t e later = later e
+
+pub known-small : (bytes : List ℕ) {s : Segment} → open-segment bytes ≡ ok s → (id len : ℕ) → length-of (s .documents) id ≡ some len
+    → id < 2 ^ 32
+unfolding open-segment contents
+known-small bytes {s} o id len known =
+    let (parts, _, f) = bind-gives (sections bytes) _ o in
+    let (_, _, g) = bind-gives (checksums bytes parts) _ f in
+    let (ds, is, h) = bind-gives (metadata (parts .documents) (parts .metadata)) _ g in
+    let (es, _, k) = bind-gives (directory (parts .terms) (parts .directory) (parts .names) (parts .lists)) _ h in
+    let same : ds ≡ s .documents = ap (λ (x : Segment). x .documents) (ok-same k) in
+    let all = held.metadata-held (parts .documents) (parts .metadata) is .0 in
+    id-small 0 (s .documents)
+    (subst (held.Rising 0) (all ∙ same) (held.held-rise (parts .documents) none (parts .metadata))) id len known
