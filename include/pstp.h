@@ -1,9 +1,9 @@
 /* Positional segments: documents, terms and positions in one sequence of bytes, and the search over them.
  *
  * In a drum machine a document is a bar, a term a sound, a position a step. The calls are those of src/positional/raw.rs of
- * arclabs561/postings (see NOTICE), ported to Rattle and proved, and pstp_midi_bars, which reads bars from a MIDI file. docs/FORMAT.md
- * describes the format, the order of the checks and the rules of the search; docs/GLOSSARY.md explains the words. Link with libpstp.a
- * (`rt staticlib pstp`, x86-64 Linux). C99 and C++.
+ * arclabs561/postings (see NOTICE), ported to Rattle and proved, and two more: pstp_midi_bars, which reads bars from a MIDI file, and
+ * pstp_bar_sheet, which shows a bar in lines of text. docs/FORMAT.md describes the format, the order of the checks and the rules of the
+ * search; docs/GLOSSARY.md explains the words. Link with libpstp.a (`rt staticlib pstp`, x86-64 Linux). C99 and C++.
  *
  * What every call guarantees
  *
@@ -30,7 +30,7 @@
  *  Lend an empty buffer: PSTP_NO_ROOM returns in `which` the first buffer that is too short (from 1, in the order of the parameters) and
  *  in `index` the length it needs. An answer of no elements is accepted at once. Or lend what is always enough and save the second call
  *  (each call opens and checks the whole segment again): for ids, lengths and counts, the number of documents that pstp_open returns.
- *  pstp_midi_bars has eight buffers, and says itself what is always enough.
+ *  pstp_midi_bars and pstp_bar_sheet say themselves what is always enough.
  */
 #ifndef PSTP_H
 #define PSTP_H
@@ -79,10 +79,14 @@ enum {
     PSTP_NO_ROOM = 13,    /* a lent buffer is too short for the whole answer (which: buffer, from 1; index: the length needed) */
 
     /* Caused by the MIDI file. */
-    PSTP_MIDI_FILE = 14,  /* a file outside the rules of pstp_midi_bars (index: 0 for the header, 14 for the track's heading, otherwise
-                             an offset: of the wrong event's delta time, of the first byte after the end of track, or the file's length
-                             where that end is missing) */
-    PSTP_BAR_TOO_FAR = 15 /* a hit beyond bar 65,535 */
+    PSTP_MIDI_FILE = 14,   /* a file outside the rules of pstp_midi_bars (index: 0 for the header, 14 for the track's heading, otherwise
+                              an offset: of the wrong event's delta time, of the first byte after the end of track, or the file's length
+                              where that end is missing) */
+    PSTP_BAR_TOO_FAR = 15, /* a hit beyond bar 65,535 */
+
+    /* Caused by the id of the bar that the caller asks for. */
+    PSTP_UNKNOWN_BAR = 16, /* no bar has this id */
+    PSTP_BAR_TOO_LONG = 17 /* the bar has over PSTP_SHEET_STEPS steps */
 };
 
 /* Sections: `which` of kinds 1, 5 and 7. */
@@ -126,6 +130,7 @@ enum {
 /* Limits. Segments and lent buffers have none. */
 #define PSTP_LIMIT 16777216 /* elements of a list, text or MIDI file that is passed in */
 #define PSTP_NAMES 128      /* names of a question */
+#define PSTP_SHEET_STEPS 64 /* steps of a bar on a sheet */
 
 /* The checks have a fixed order (docs/FORMAT.md), and the first that fails gives the refusal. Each call lists its refusals in that order,
  * as kind or kind/which. Two sequences are common to several calls:
@@ -283,6 +288,22 @@ pstp_reply pstp_midi_bars(const uint8_t *file, size_t file_len, uint32_t *ids, s
                           uint8_t *text, size_t text_len, uint32_t *ends, size_t ends_len, uint32_t *posting_counts,
                           size_t posting_counts_len, uint32_t *posting_ids, size_t posting_ids_len, uint32_t *position_counts,
                           size_t position_counts_len, uint32_t *positions, size_t positions_len);
+
+/* A bar on paper: a sheet of lines of exactly 80 characters, each followed by a line feed. out holds it as UTF-8, without a terminating 0.
+ * first: the sheet's length in bytes.
+ *
+ *  First line  id and length of the bar, right-justified in 10 columns each, then 60 blanks
+ *  Next lines  one for each sound (term) that has a hit (position) in the bar, in the order of the directory, which is that of the names:
+ *                name   12 characters, cut or padded with blanks; those below 32 and 127 are shown as ?
+ *                steps  64 characters: o for a hit, a full stop for another step of the bar, a blank past the bar's length
+ *                hits   their number, right-justified in 4 columns
+ *
+ * A character is a Unicode scalar value, of 1 to 4 bytes, so a line of 80 characters has up to 116 bytes, and a line feed. Always enough
+ * for out: 81 + 117 * terms, the second number of pstp_open. A bar without hits, as one of length 0, has the first line alone: 81 bytes.
+ *
+ * Refusals: opening; 16 (no bar has this id); 17 (the bar has over 64 steps); decoding the list of every term in the order of the
+ * directory, whether or not the bar has the sound; 13/1 out. */
+pstp_reply pstp_bar_sheet(const uint8_t *segment, size_t segment_len, uint32_t id, uint8_t *out, size_t out_len);
 
 #ifdef __cplusplus
 }

@@ -90,6 +90,7 @@ int main(void) {
     test_midi();
     test_midi_events();
     test_midi_limits();
+    test_sheet();
     test_limits();
     test_empty();
     test_stack();

@@ -63,6 +63,7 @@ static void test_refused(const char *note, const struct bytes *s, pstp_reply wan
     static const uint32_t one[] = {1}, two[] = {1, 2}, twice[] = {1, 2};
     const uint8_t *ab = (const uint8_t *)"ab", *ba = (const uint8_t *)"ba", *aa = (const uint8_t *)"aa";
     struct lent x = lent(), y = lent(), z = lent();
+    struct bytes out = lent_bytes(), nothing = {{0}, 0};
     for (size_t room = 0; room <= ROOM; room += ROOM) { /* 13 is tested after decoding */
         expect_reply(note, pstp_docs_with_term(s->at, s->len, a, 1, x.place, room), want);
         expect_reply(note, pstp_term_postings(s->at, s->len, a, 1, x.place, room, y.place, room, z.place, room), want);
@@ -74,7 +75,10 @@ static void test_refused(const char *note, const struct bytes *s, pstp_reply wan
         expect_reply(note, pstp_near_match(s->at, s->len, ba, 1, a, 1, 1, x.place, room), want);
         expect_reply(note, pstp_near_match_terms_strs(s->at, s->len, ba, 2, two, 2, 1, true, x.place, room), want);
         expect_reply(note, pstp_near_match_terms_strs(s->at, s->len, aa, 2, twice, 2, 1, false, x.place, room), want);
+        expect_reply(note, pstp_bar_sheet(s->at, s->len, 3, out.at, room), want);
+        expect_reply(note, pstp_bar_sheet(s->at, s->len, 7, out.at, room), want);
     }
+    expect_written(note, &out, &nothing, 0);
     expect_filled(note, &x, nowhere, 0);
     expect_filled(note, &y, nowhere, 0);
     expect_filled(note, &z, nowhere, 0);
@@ -91,6 +95,8 @@ static void test_undecoded(const char *note, const struct bytes *s, uint32_t df)
     expect_reply(note, pstp_near_match(s->at, s->len, a, 1, a, 1, 0, x.place, 0), accepted(0, 0));
     expect_reply(note, pstp_near_match_terms_strs(s->at, s->len, a, 1, one, 1, 1, true, x.place, 0), accepted(0, 0));
     expect_reply(note, pstp_near_match_terms_strs(s->at, s->len, (const uint8_t *)"aa", 2, two, 2, 0, true, x.place, 0), accepted(0, 0));
+    expect_reply(note, pstp_bar_sheet(s->at, s->len, 4, no_bytes, 0), refused(16, 0, 0));
+    expect_reply(note, pstp_bar_sheet(s->at, s->len, 4294967295u, no_bytes, 0), refused(17, 0, 0));
     expect_filled(note, &x, nowhere, 0);
 }
 

@@ -45,5 +45,7 @@ void test_empty(void) {
     expect_reply(note,
                  pstp_midi_bars(one_hit.at, one_hit.len, x.place, 1, x.place + 1, 1, NULL, 0, NULL, 0, NULL, 0, NULL, 0, NULL, 0, NULL, 0),
                  refused(13, 3, 4));
+    expect_reply(note, pstp_bar_sheet(NULL, 0, 3, NULL, 0), refused(1, 1, 0));
+    expect_reply(note, pstp_bar_sheet(s.at, s.len, 3, NULL, 0), refused(13, 1, 243));
     expect_filled(note, &x, nowhere, 0);
 }

@@ -135,7 +135,7 @@ static void test_long_records(uint32_t *many, const uint8_t *text) {
     free(documents);
 }
 
-/* A list of exactly the limit is written: one name of 16,777,216 bytes. */
+/* A list of exactly the limit is written: one name of 16,777,216 bytes. A segment, and a buffer to lend, may be longer. */
 static void test_long_name_written(const uint8_t *name) {
     const uint32_t id = 3, length = 16, end = LIMIT, one = 1, step = 15;
     size_t need = 72 + 32 + (size_t)LIMIT + 2 + 3;
@@ -146,6 +146,10 @@ static void test_long_name_written(const uint8_t *name) {
     struct lent x = lent();
     expect_reply("the longest name found", pstp_positions(out, need, name, LIMIT, 3, x.place, ROOM), accepted(1, 0));
     expect_filled("the longest name found", &x, &step, 1);
+    uint8_t *sheet = malloc(OVER);
+    expect_reply("the longest name's sheet", pstp_bar_sheet(out, need, 3, sheet, OVER), accepted(162, 0));
+    expect("the longest name's sheet", memcmp(sheet + 81, "aaaaaaaaaaaa...............o", 28) == 0);
+    free(sheet);
     free(out);
 }
 

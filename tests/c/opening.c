@@ -155,6 +155,7 @@ static void test_no_call_opens(const char *note, const struct bytes *s, pstp_rep
     const uint8_t *kick = (const uint8_t *)"kick";
     uint32_t ends[] = {2, 4};
     struct lent a = lent(), b = lent(), c = lent();
+    struct bytes out = lent_bytes(), nothing = {{0}, 0};
     expect_reply(note, pstp_document_lengths(s->at, s->len, a.place, ROOM, b.place, ROOM), want);
     expect_reply(note, pstp_document_len(s->at, s->len, 3), want);
     expect_reply(note, pstp_df(s->at, s->len, kick, 4), want);
@@ -167,6 +168,9 @@ static void test_no_call_opens(const char *note, const struct bytes *s, pstp_rep
     expect_reply(note, pstp_near_match(s->at, s->len, kick, 2, kick + 2, 2, 0, a.place, ROOM), want);
     expect_reply(note, pstp_near_match_terms_strs(s->at, s->len, kick, 4, ends, 2, 1, true, a.place, ROOM), want);
     expect_reply(note, pstp_near_match_terms_strs(s->at, s->len, kick, 4, ends, 2, 0, false, a.place, ROOM), want);
+    expect_reply(note, pstp_bar_sheet(s->at, s->len, 3, out.at, sizeof out.at), want);
+    expect_reply(note, pstp_bar_sheet(s->at, s->len, 5, out.at, 0), want);
+    expect_written(note, &out, &nothing, 0);
     expect_filled(note, &a, nowhere, 0);
     expect_filled(note, &b, nowhere, 0);
     expect_filled(note, &c, nowhere, 0);

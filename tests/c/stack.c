@@ -25,7 +25,7 @@ static uint32_t posting_counts[128], posting_ids[384], position_counts[384], pos
 /* A MIDI file with hits of all 128 notes on the first steps of two bars, and its lists. */
 static struct bytes file;
 static uint32_t bars[2], lengths[2], name_ends[128], bar_counts[128], bar_ids[256], step_counts[256], steps[256];
-static uint8_t sounds[512];
+static uint8_t sounds[512], sheet[81 * 129];
 
 static void make_file(void) {
     file = midi(4, "00 90 00 01");
@@ -82,6 +82,9 @@ static void near_two(void) {
 static void postings(void) {
     reply = pstp_term_postings(segment, segment_len, text, 2, ids, room, more_ids, room, places, room);
 }
+static void bar_sheet(void) {
+    reply = pstp_bar_sheet(segment, segment_len, 3, sheet, room > 0 ? sizeof sheet : 0);
+}
 static void document_lengths(void) {
     reply = pstp_document_lengths(segment, segment_len, ids, room, more_ids, room);
 }
@@ -103,6 +106,7 @@ static const struct {
     {"unordered", unordered, 3, 0, 0, 0, SEARCH},
     {"near_match", near_two, 3, 0, 0, 0, SEARCH},
     {"midi_bars", midi_bars, 2, 128, 256, 256, MIDI},
+    {"bar_sheet", bar_sheet, 81 * 129, 0, 0, 0, OTHER},
 };
 
 static void run(void) {
