@@ -46,6 +46,10 @@ pub enum Error {
     MidiFile(usize),
     /// A MIDI file has a hit beyond bar 65,535.
     BarTooFar,
+    /// No bar has the id asked for.
+    UnknownBar,
+    /// The bar asked for has more than 64 steps.
+    BarTooLong,
 }
 
 /// Sections, from 1.
@@ -117,6 +121,8 @@ impl Error {
             },
             14 => Error::MidiFile(index),
             15 => Error::BarTooFar,
+            16 => Error::UnknownBar,
+            17 => Error::BarTooLong,
             _ => return None,
         })
     }
@@ -170,6 +176,8 @@ impl fmt::Display for Error {
             Error::MidiFile(14) => write!(f, "invalid MIDI file: track heading"),
             Error::MidiFile(offset) => write!(f, "invalid MIDI file: event at offset {offset}"),
             Error::BarTooFar => write!(f, "MIDI file has a hit beyond bar 65535"),
+            Error::UnknownBar => write!(f, "no bar has this id"),
+            Error::BarTooLong => write!(f, "bar has more than 64 steps"),
         }
     }
 }
@@ -215,6 +223,8 @@ mod tests {
             ),
             ((14, 0, 16_777_216), Error::MidiFile(16_777_216)),
             ((15, 0, 0), Error::BarTooFar),
+            ((16, 0, 0), Error::UnknownBar),
+            ((17, 0, 0), Error::BarTooLong),
         ];
         for ((kind, which, index), error) in cases {
             assert_eq!(Error::of_numbers(kind, which, index), Some(error));
@@ -225,7 +235,7 @@ mod tests {
     fn other_numbers_have_none() {
         for (kind, which, index) in [
             (0, 0, 0),
-            (16, 0, 0),
+            (18, 0, 0),
             (1, 0, 0),
             (5, 7, 0),
             (6, 0, 0),

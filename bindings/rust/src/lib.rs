@@ -25,7 +25,8 @@
 //! - Each call opens the segment again: the library keeps nothing between calls. A call therefore reads the whole segment once, and every
 //!   method returns a [`Result`]; after [`RawPositionalSegment::open`] has accepted the bytes, opening them again cannot fail.
 //! - A question has at most 128 terms, and each list at most 16,777,216 elements; otherwise [`Error::TooLarge`].
-//! - Files and the hash-map index are left out. [`midi_bars`], which reads bars from a MIDI file, is added.
+//! - Files and the hash-map index are left out. [`midi_bars`], which reads bars from a MIDI file, and
+//!   [`RawPositionalSegment::bar_sheet`], which puts a bar on paper, are added.
 #![deny(missing_docs)]
 #![deny(unsafe_code)]
 

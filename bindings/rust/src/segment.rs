@@ -122,6 +122,32 @@ impl<'a> RawPositionalSegment<'a> {
         self.documents(|ids| sys::near_match_terms_strs(self.bytes, &names, window, ordered, ids))
     }
 
+    /// Return one bar as a sheet of text, in lines of 80 characters: first the bar's id and length, then one line for each sound that has
+    /// a hit in it, by name.
+    ///
+    /// A name is cut or padded to 12 characters. Then come 64 steps, `o` for a hit, `.` for another step of the bar and a blank past its
+    /// length, and the number of hits. Every term's list is decoded, whether or not the bar has the sound.
+    ///
+    /// ```
+    /// # use pstp::{write_positional_segment, PositionalPosting, PositionalTermPostings, RawPositionalSegment};
+    /// # let kick = vec![PositionalPosting { doc_id: 3, positions: &[0, 4, 15] }];
+    /// # let bytes = write_positional_segment(&[(3, 16)], &[PositionalTermPostings { term: "kick", postings: kick }])?;
+    /// let segment = RawPositionalSegment::open(&bytes)?;
+    /// let sheet = segment.bar_sheet(3)?;
+    /// let lines: Vec<_> = sheet.lines().map(str::trim_end).collect();
+    /// assert_eq!(lines[0], "         3        16");
+    /// assert_eq!(lines[1], "kick        o...o..........o                                                   3");
+    /// # Ok::<(), pstp::Error>(())
+    /// ```
+    pub fn bar_sheet(&self, doc_id: DocId) -> Result<String, Error> {
+        // No sheet is longer, so one call suffices: 81 bytes of heading, and for each term a line of 12 characters of at most four bytes
+        // and 69 bytes more. A term has 32 bytes of the segment or more, so this is about four times the segment at most.
+        let mut sheet = vec![0; 81 + 117 * self.term_count as usize];
+        let (len, _) = sys::bar_sheet(self.bytes, doc_id, &mut sheet).answer()?;
+        let sheet = String::from_utf8(front(sheet, len));
+        Ok(sheet.expect("names are UTF-8, and are cut between characters"))
+    }
+
     /// A place for each document. An open segment has two bytes or more for each, so this is at most twice the segment.
     fn room_for_documents(&self) -> Vec<u32> {
         vec![0; self.doc_count as usize]

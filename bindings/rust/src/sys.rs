@@ -5,11 +5,13 @@
 //! behind a `&mut` while the call runs. The library keeps no pointer, and no contents are forbidden.
 
 mod midi;
+mod sheet;
 
 use crate::flat::{Lists, Names};
 use crate::Error;
 
 pub(crate) use midi::midi_bars;
+pub(crate) use sheet::bar_sheet;
 
 /// Every call's reply.
 #[repr(C)]

@@ -1,7 +1,10 @@
 //! Bars from MIDI files: the worked files, refusals under their names, and random files whose hits are known.
 
+mod common;
+
 use std::collections::BTreeSet;
 
+use common::Random;
 use pstp::{
     midi_bars, write_positional_segment, Error, MidiBars, PositionalPosting, RawPositionalSegment,
 };
@@ -116,22 +119,6 @@ fn texts() {
     ];
     for (error, text) in texts {
         assert_eq!(error.to_string(), text);
-    }
-}
-
-/// Marsaglia's xorshift: the same numbers in each run.
-struct Random(u64);
-
-impl Random {
-    fn below(&mut self, n: u32) -> u32 {
-        self.0 ^= self.0 << 13;
-        self.0 ^= self.0 >> 7;
-        self.0 ^= self.0 << 17;
-        ((self.0 >> 32) % u64::from(n)) as u32
-    }
-
-    fn bytes(&mut self, len: u32, below: u32) -> Vec<u8> {
-        (0..len).map(|_| self.below(below) as u8).collect()
     }
 }
 

@@ -1,24 +1,15 @@
 //! Random bars: what is written is read back, and every question is answered as its rule says, worked out from the bars in the plainest
 //! way.
 
+mod common;
+
 use std::collections::{BTreeMap, BTreeSet};
 
+use common::Random;
 use pstp::{
     write_positional_segment, PositionalPosting, PositionalTermPostings, RawPositionalPosting,
     RawPositionalSegment,
 };
-
-/// Marsaglia's xorshift: the same numbers in each run.
-struct Random(u64);
-
-impl Random {
-    fn below(&mut self, n: u32) -> u32 {
-        self.0 ^= self.0 << 13;
-        self.0 ^= self.0 >> 7;
-        self.0 ^= self.0 << 17;
-        ((self.0 >> 32) % u64::from(n)) as u32
-    }
-}
 
 const NAMES: [&str; 5] = ["a", "ab", "b", "h\u{e4}t", "\u{3ba}\u{1f79}"];
 

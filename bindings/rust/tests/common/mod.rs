@@ -1,4 +1,4 @@
-//! The two bars of docs/FORMAT.md, and segments broken on purpose.
+//! The two bars of docs/FORMAT.md, segments broken on purpose, and random numbers.
 #![allow(dead_code)] // Each test file uses a part.
 
 use pstp::{
@@ -67,4 +67,20 @@ pub fn repaired(mut bytes: Vec<u8>, at: usize, over: &[u8]) -> Vec<u8> {
         start = end;
     }
     bytes
+}
+
+/// Marsaglia's xorshift: the same numbers in each run.
+pub struct Random(pub u64);
+
+impl Random {
+    pub fn below(&mut self, n: u32) -> u32 {
+        self.0 ^= self.0 << 13;
+        self.0 ^= self.0 >> 7;
+        self.0 ^= self.0 << 17;
+        ((self.0 >> 32) % u64::from(n)) as u32
+    }
+
+    pub fn bytes(&mut self, len: u32, below: u32) -> Vec<u8> {
+        (0..len).map(|_| self.below(below) as u8).collect()
+    }
 }
