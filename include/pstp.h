@@ -298,8 +298,8 @@ pstp_reply pstp_midi_bars(const uint8_t *file, size_t file_len, uint32_t *ids, s
  *                steps  64 characters: o for a hit, a full stop for another step of the bar, a blank past the bar's length
  *                hits   their number, right-justified in 4 columns
  *
- * A character is a Unicode scalar value, of 1 to 4 bytes, so a line of 80 characters has up to 116 bytes, and a line feed. Always enough
- * for out: 81 + 117 * terms, the second number of pstp_open. A bar without hits, as one of length 0, has the first line alone: 81 bytes.
+ * A character is a Unicode scalar value, of 1 to 4 bytes: a line has 81 to 117 bytes, line feed included. A bar without hits, such as one
+ * of length 0, has the first line alone, 81 bytes. Always enough for out: 81 + 117 * terms, the latter being pstp_open's second.
  *
  * Refusals: opening; 16 (no bar has this id); 17 (the bar has over 64 steps); decoding the list of every term in the order of the
  * directory, whether or not the bar has the sound; 13/1 out. */

@@ -48,7 +48,7 @@ pub enum Error {
     BarTooFar,
     /// No bar has the id asked for.
     UnknownBar,
-    /// The bar asked for has more than 64 steps.
+    /// The bar asked for has more than 64 steps, too many for a sheet.
     BarTooLong,
 }
 

@@ -126,7 +126,8 @@ impl<'a> RawPositionalSegment<'a> {
     /// a hit in it, by name.
     ///
     /// A name is cut or padded to 12 characters. Then come 64 steps, `o` for a hit, `.` for another step of the bar and a blank past its
-    /// length, and the number of hits. Every term's list is decoded, whether or not the bar has the sound.
+    /// length, and the number of hits. Every term's list is decoded, whether or not the bar has the sound. A bar that is not there is
+    /// [`Error::UnknownBar`], one of more than 64 steps [`Error::BarTooLong`].
     ///
     /// ```
     /// # use pstp::{write_positional_segment, PositionalPosting, PositionalTermPostings, RawPositionalSegment};
