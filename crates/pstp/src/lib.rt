@@ -6,10 +6,12 @@
 //   write          the writer
 //   records        the writer over records
 //   midi           bars from MIDI files
+//   show           a bar on paper
 // specs/Promise.antt says what a reply has for each answer; the promises are those of the calls behind.
 pub mod ask;
 pub mod midi;
 pub mod read;
 pub mod records;
 pub mod reply;
+pub mod show;
 pub mod write;

@@ -1,4 +1,6 @@
 // A bar's id, from decimal digits.
+use common::widths::byte;
+use common::widths::wide;
 
 pub enum BarId {
     Id(u32),
@@ -13,11 +15,11 @@ pub fn read_id(word: &[u8]) -> BarId {
     let mut id: u64 = 0;
     let mut i: usize = 0;
     while i < word.len() {
-        let b = word[i];
+        let b = wide(byte(word[i]));
         if b < 48 || 57 < b {
             return BarId::NotOne;
         }
-        id = id * 10 + (b - 48) as u64;
+        id = id * 10 + (b - 48);
         if 4294967295 < id {
             return BarId::NotOne;
         }

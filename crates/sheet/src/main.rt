@@ -14,7 +14,7 @@ use segment::refusal::Refusal;
 use segment::refusal::too_large;
 use segment::replies::Counted;
 use show_listing::list::list_refusal;
-use show_sheet::sheet::bar_sheet;
+use show_print::paper::write_sheet;
 
 // A refusal's line. No index of a refusal has more than ten digits here.
 fn print_refusal(x: Refusal) {
@@ -25,22 +25,25 @@ fn print_refusal(x: Refusal) {
     }
 }
 
-fn print_sheet(segment: &[u8], id: u32) {
-    if 4194304 < segment.len() {
+fn print_sheet(segment: &[u8], id: u32, text: &mut [u8; 1048576]) {
+    if let Counted::Refused(x) = write_sheet(STDOUT_FILENO, segment, DocId(id), text) {
+        print_refusal(x);
+    }
+}
+
+// The bar of an open file.
+fn print_file(fd: i32, id: u32, segment: &mut [u8], text: &mut [u8; 1048576]) {
+    let n = io::read_full(fd, segment);
+    if 4194304 < n {
         print_refusal(too_large());
         return;
     }
-    let mut text = [0u8; 1048576];
-    match bar_sheet(segment, DocId(id), &mut text) {
-        Counted::Count(n) => {
-            if n <= text.len() {
-                io::write_all(STDOUT_FILENO, &text[..n]);
-            }
-        }
-        Counted::Refused(x) => {
-            print_refusal(x);
-        }
-    }
+    print_sheet(&segment[..n], id, text);
+}
+
+// One place more than a file may have bytes here, so that a longer one is seen.
+fn print_in(fd: i32, id: u32, segment: &mut [u8; 4194305], text: &mut [u8; 1048576]) {
+    print_file(fd, id, segment, text);
 }
 
 fn print_bar(name: &[u8], id: u32) {
@@ -49,19 +52,18 @@ fn print_bar(name: &[u8], id: u32) {
         os::fail(name);
         return;
     }
-    // One byte more than a file may have here, so that a longer one is seen.
     let mut segment = [0u8; 4194305];
-    let n = io::read_full(fd, &mut segment);
+    let mut text = [0u8; 1048576];
+    print_in(fd, id, &mut segment, &mut text);
     libc::close(fd);
-    print_sheet(&segment[..n], id);
 }
 
-// The pair of arguments from i on.
-fn print_pair(i: usize) {
+// A pair of arguments.
+fn print_pair(file: usize, bar: usize) {
     let mut name = io::buffer();
-    let n = os::arg(i, &mut name);
+    let n = os::arg(file, &mut name);
     let mut word = io::buffer();
-    let w = os::arg(i + 1, &mut word);
+    let w = os::arg(bar, &mut word);
     match read_id(&word[..w]) {
         BarId::Id(id) => {
             print_bar(&name[..n], id);
@@ -81,7 +83,7 @@ fn main() {
     }
     let mut i: usize = 1;
     while i < count - 1 {
-        print_pair(i);
+        print_pair(i, i + 1);
         i += 2;
     }
 }

@@ -136,7 +136,7 @@ fn put_entries(dir: &[u8], names: &[u8], terms: usize, out: &mut [u8], at: usize
 }
 
 // A refusal's line.
-fn list_refusal(x: Refusal, out: &mut [u8]) -> Counted
+pub fn list_refusal(x: Refusal, out: &mut [u8]) -> Counted
     requires { ⌜ x .index < 10000000000 ⌝ }
     ensures { λ r. ⌜ Refusal-listed x (was out) r (left out) ⌝ }
 {

@@ -8,7 +8,7 @@ use Prim.Native.Nat.{ℕ, zero, suc, _+_, _*_, _≤_, _<_}
 use native.Mathlib.Nat.{zero-add}
 use native.Mathlib.Omega.{arith}
 use lib.Dec.{leb, eqb}
-use lib.ListN.{length, replicate, length-append, length-replicate}
+use lib.ListN.{length, drop, replicate, length-append, length-replicate}
 use borrow.Author.Tests.{le-leb, lt-leb, leb-true, eqb-true}
 use Rattle.common.specs.Stores.{Stored}
 use Rattle.common.proofs.Sets.{sets-front}
@@ -259,3 +259,12 @@ module _ (bytes : List ℕ) (id : ℕ) (out : List ℕ) where
       pub sheet-on-paper : {r : Counted} {out′ : List ℕ} → Sheet-drawn bytes l bar out r out′ → Sheet-answered bytes id out r out′
       unfolding sheet-into
       sheet-on-paper d = record { reply = rw sheet-is (d .reply); left = rw sheet-is (d .left) }
+
+-- the sheet lies in the buffer
+pub sheet-fits : {bytes : List ℕ} {id : ℕ} {out out′ : List ℕ} {r : Counted} {k : ℕ} → Sheet-answered bytes id out r out′ → r ≡ Count k
+    → k ≤ length out′
+sheet-fits {bytes} {id} {out} {out′} {k = k} a e = by (sheet-into bytes id (length out)) (sym e ∙ a .reply) (a .left)
+  where
+    by : (q : Result (List ℕ)) → Count k ≡ count-of q → out′ ≡ filled (λ text. text) q out → k ≤ length out′
+    by (ok text) f g = let h : k ≡ length text = cc in omega (arith, ap length g, length-append text (drop (length text) out))
+    by (refuse x) f g = let z : _≡_ {A = ℕ} 0 1 = cc in absurd (omega arith)
