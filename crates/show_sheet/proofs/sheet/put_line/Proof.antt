@@ -53,7 +53,7 @@ returns-2 c =
     let e = k .before .before .before .before in
     let s = e .before .before .before in
     not-drawn _ _ _ _ (s .pre .0) (s .pre .1) (e .entry-list .ensures) (s .pre .2 .decoded) _ _ (k .before .before .before .start .ensures) (k .seek .ensures)
-    (λ h same. c .if2 .taken same)
+    (λ h same. omega (arith, c .if2 .taken, same))
 
 sub-entry-name : tie.Need-sub-entry-name
 sub-entry-name c =
