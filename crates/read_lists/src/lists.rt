@@ -178,10 +178,10 @@ pub fn decode_postings_bytes(list: &[u8], df: u32, meta: &[u8], documents: u32) 
 fn count_in(posting: DocId, count: u32, doc: DocId) -> u32
     ensures { λ r. ⌜ r ≡ cond (eqb (posting .0) (doc .0)) count 0 ⌝ }
 {
-    if posting.0 == doc.0 {
-        return count;
+    if posting.0 != doc.0 {
+        return 0;
     }
-    0
+    count
 }
 
 // All postings of a list, then trailing bytes, as decode_postings_bytes; answers how many positions one document has in it.
