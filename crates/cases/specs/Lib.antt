@@ -1,6 +1,7 @@
--- Worked cases, each with its digits; the first four files are what they share:
+-- Worked cases, each with its digits; the first five files are what they share:
 pub mod Segments
 pub mod Sealing
+pub mod Printed
 pub mod Midi-made
 pub mod Through
 pub mod Asked
@@ -26,6 +27,8 @@ pub mod Numbers
 pub mod Question-order
 pub mod Refusals
 pub mod Replies
+pub mod Sheet-lines
+pub mod Sheets
 pub mod Term-reads
 pub mod Too-large
 pub mod Written

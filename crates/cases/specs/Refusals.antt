@@ -11,7 +11,7 @@ use Rattle.segment.specs.Refusals.{directory-length-mismatch, empty-term, non-i
 use Rattle.segment.specs.Refusals.{non-increasing-posting-id, unknown-document, empty-position-list, non-increasing-position}
 use Rattle.segment.specs.Refusals.{position-exceeds-length, trailing-posting-bytes, document-lengths-not-increasing, terms-not-increasing}
 use Rattle.segment.specs.Refusals.{posting-id-gap-underflow, posting-ids-not-increasing, position-gap-underflow, positions-not-increasing}
-use Rattle.segment.specs.Refusals.{written-position-exceeds-length, midi-file, bar-too-far}
+use Rattle.segment.specs.Refusals.{written-position-exceeds-length, midi-file, bar-too-far, unknown-bar, bar-too-long}
 
 -- 1 header, 2 term directory, 3 term bytes, 4 document metadata, 5 postings, 6 term postings
 sections : header ∷ term-directory ∷ term-bytes ∷ document-metadata ∷ postings ∷ term-postings ∷ [] ≡ 1 ∷ 2 ∷ 3 ∷ 4 ∷ 5 ∷ 6 ∷ []
@@ -102,3 +102,11 @@ kind-14 index = refl
 -- 15 a hit beyond bar 65,535
 kind-15 : bar-too-far ≡ record { kind = 15; which = 0; index = 0 }
 kind-15 = refl
+
+-- 16 an unknown bar
+kind-16 : unknown-bar ≡ record { kind = 16; which = 0; index = 0 }
+kind-16 = refl
+
+-- 17 a bar longer than 64 steps
+kind-17 : bar-too-long ≡ record { kind = 17; which = 0; index = 0 }
+kind-17 = refl

@@ -20,6 +20,7 @@ use Rattle.calls.specs.Writing.{write, write-records}
 use Rattle.segment.specs.Contents.{decode-all, decode-segment}
 use Rattle.calls.specs.Listing.{digits, column, name-column, count-line, document-line, entry-line, document-lines, entry-lines}
 use Rattle.calls.specs.Listing.{refusal-line, listable, listing}
+use Rattle.calls.specs.Sheet.{right-justified, marks, heading, sound-line, sound-lines, sheet, bar-sheet, sheet-into}
 use Rattle.claim_joint.specs.Own.{own-of, own-under}
 use Rattle.calls.specs.Sizes.{documents-size, positions-size, postings-size, terms-size}
 use Rattle.common.specs.Members.{every, some-of, kept}
@@ -101,6 +102,11 @@ unfoldable pub listing-lines : Unit {0}
 unfolding opening listing listable refusal-line count-line document-lines document-line entry-lines entry-line name-column column digits
     octets value decoded-from decoded
 listing-lines = tt
+
+unfoldable pub sheet-lines : Unit {0}
+unfolding listing-lines decoding decode-all positions-of some-of sheet-into bar-sheet sheet sound-lines sound-line heading marks
+    right-justified
+sheet-lines = tt
 
 unfoldable pub heading-read : Unit {0}
 unfolding same midi.header midi.heading midi.chunks import-file import-into
