@@ -1,6 +1,7 @@
--- The sheet (document 02, wish 3): a bar on paper, in lines of 80 characters, each with a line feed. The first has id and length in 10 columns
--- each, then blanks; then comes a line for each sound of the bar, in directory order: its name, cut or padded to 12 characters, 64 steps, and
--- the number of hits, right-justified in 4 columns. A hit is o, another step of the bar a full stop, a step past its length blank.
+-- The sheet (document 02, wish 3): a bar on paper, in lines of 80 characters, each with a line feed. The first has id and length in 10
+-- columns each, then blanks; then comes a line for each sound of the bar, in directory order: its name, cut or padded to 12 characters, 64
+-- steps, and the number of hits, right-justified in 4 columns. A hit is o, another step of the bar a full stop, a step past its length
+-- blank.
 use Prim.Native.Nat.{ℕ, zero, suc, _-_}
 use mathlib.Core.Bool.{cond}
 use mathlib.Core.List.{List, [], _∷_, _++_}

@@ -7,8 +7,8 @@ use lib.ListN.{replicate}
 use Rattle.crc32.specs.Crc32.{crc32Of}
 use Rattle.segment.specs.Results.{ok}
 use Rattle.segment.specs.declared.replies.Counted.the-variants as counted
-use Rattle.calls.specs.Replies.{count-of, filled}
 use Rattle.calls.specs.Sheet.{sheet-into}
+use Rattle.show_sheet.specs.Promise.{Sheet-answered}
 use Rattle.cases.specs.Through.{sheet-lines}
 use Rattle.cases.specs.Printed.{page}
 use Rattle.cases.specs.Sealing.{refused, sealed, entry}
@@ -60,14 +60,13 @@ bar-3 = refl
 
 -- bar 7, the second posting of each list; seven places more are unchanged. Fails: each list's first posting, the list's total for the bar's
 -- hits, blanks behind the text
-bar-7 : (count-of (sheet-into segment-of-two 7 250) ≡ counted.Count 243)
-    × (filled (λ text. text) (sheet-into segment-of-two 7 250) (replicate 250 0xAA) ≡ page (
+bar-7 : Sheet-answered segment-of-two 7 (replicate 250 0xAA) (counted.Count 243) (page (
     "         7        16                                                            "
     ∷ "kick        ..o.............                                                   1"
     ∷ "snare       ...oo...........                                                   2"
     ∷ []) ++ replicate 7 0xAA)
 unfolding sheet-lines
-bar-7 = (refl, refl)
+bar-7 = record { reply = refl; left = refl }
 
 -- b is no sound of bar 2. Fails: a line of full stops for b, or for a the count of 4 hits in all bars
 bar-2 : sheet-into segment-of-spread 2 162 ≡ ok (page (
@@ -125,10 +124,10 @@ greek-short = refl
 -- ---- 13: the whole sheet, or nothing
 
 -- one place less than bar 3 takes. Fails: lines as far as they go, the places lent as index
-bar-3-short : (count-of (sheet-into segment-of-two 3 242) ≡ counted.Refused (record { kind = 13; which = 1; index = 243 }))
-    × (filled (λ text. text) (sheet-into segment-of-two 3 242) (replicate 242 0xAA) ≡ replicate 242 0xAA)
+bar-3-short : Sheet-answered segment-of-two 3 (replicate 242 0xAA) (counted.Refused (record { kind = 13; which = 1; index = 243 }))
+    (replicate 242 0xAA)
 unfolding sheet-lines
-bar-3-short = (refl, refl)
+bar-3-short = record { reply = refl; left = refl }
 
 -- no places. Fails: the first line's 81 as index
 no-places : sheet-into segment-of-two 3 0 ≡ refused 13 1 243

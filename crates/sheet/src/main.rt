@@ -77,7 +77,8 @@ fn print_pair(file: usize, bar: usize) {
 
 fn main() {
     let count = os::arg_count();
-    if count < 3 {
+    // The first word is the program's own name.
+    if count < 3 || count % 2 == 0 {
         io::write_all(STDERR_FILENO, b"usage: sheet FILE ID ..\n");
         return;
     }

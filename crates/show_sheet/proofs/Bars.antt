@@ -26,5 +26,6 @@ module _ (meta : List ℕ) (documents : List Document) (id : ℕ) (first here : 
     pub bar-long : 64 < here .len → found.Refused bar-too-long ≡ bar-found id (paper-length documents id)
     bar-long k = rw (length-is, lt-leb (here .len) 64 k)
 
-    pub bar-short : here .len ≤ 64 → found.Bar (record { id = record { 0 = id }; len = here .len }) ≡ bar-found id (paper-length documents id)
+    pub bar-short : here .len ≤ 64
+        → found.Bar (record { id = record { 0 = id }; len = here .len }) ≡ bar-found id (paper-length documents id)
     bar-short k = rw (length-is, le-leb (here .len) 64 k)

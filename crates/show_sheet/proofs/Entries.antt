@@ -110,7 +110,12 @@ module _ (bytes : List ℕ) (l : Layout) (bar : Bar) (i : ℕ) (paper : On-paper
           let (ps, d, many) = told-in (bar .id .0) documents (list-entry bytes t) told in
           let hits = positions-of ps (bar .id .0) in
           let size : length (sound-line (bar .len) name hits) ≡ k + 69 =
-          omega (arith, sound-length (bar .len) name hits (omega (arith, few (decode-is ∙ d))), wide, ap (λ q. length (name-column 12 q)) same) in
+          omega (
+            arith,
+            sound-length (bar .len) name hits (omega (arith, few (decode-is ∙ d))),
+            wide,
+            ap (λ q. length (name-column 12 q)) same,
+          ) in
           rw (line-is (decode-is ∙ d), line-some (bar .len) name hits (omega (arith, many, some))) (ap counted.Count (sym size))
 
     -- ---- drawn

@@ -55,7 +55,8 @@ hits-few documents id len known e {ps} d =
     let below = decoded-below documents id len known e d in
     let read =
     all-postings-read (e .df) documents (e .list) (check-gives (eqb (crc32Of (e .list)) (e .checksum)) _ _ d .1) in
-    let rising : Rises none (positions-of ps id) = rw (read .is) at (full-rises id none (held-postings (e .df) none (e .list)) (read .full)) in
+    let rising : Rises none (positions-of ps id) =
+    rw (read .is) at (full-rises id none (held-postings (e .df) none (e .list)) (read .full)) in
     omega (arith, below-few len none (positions-of ps id) rising below)
 
 -- ---- some

@@ -181,7 +181,8 @@ module _ (bytes : List ℕ) (l : Layout) (bar : Bar) (from : ℕ) (entry : List 
 
   module _ {n i next : ℕ} {out : List ℕ} (h : i < n) (s : Lines-left bytes l bar from entry n i next out) where
     apart-left : To-store-parts (text-in (lines-in bytes l bar (l .terms) 0)) from entry
-        (text-in (line-in (documents-in bytes l) bar (entry-in bytes l i)) ∷ []) (text-in (lines-in bytes l bar (n - (i + 1)) (i + 1))) next out
+        (text-in (line-in (documents-in bytes l) bar (entry-in bytes l i)) ∷ [])
+        (text-in (lines-in bytes l bar (n - (i + 1)) (i + 1))) next out
     apart-left = record { all = rw (line-then-lines bytes l bar n i h (s .0)) at (s .1) }
 
     pub left-room : Room-for (line-in (documents-in bytes l) bar (entry-in bytes l i)) out next

@@ -94,7 +94,8 @@ fn put_heading(bar: Bar, out: &mut [u8]) -> usize
 fn put_line(bytes: &[u8], at: Layout, bar: Bar, i: usize, out: &mut [u8], next: usize) -> usize
     requires { ⌜ On-paper (now bytes) at bar × (i < at .terms)
         × Room-for (line-in (documents-in (now bytes) at) bar (entry-in (now bytes) at i)) (now out) next ⌝ }
-    ensures { λ r. ⌜ Stored (text-in (line-in (documents-in (was bytes) at) bar (entry-in (was bytes) at i))) next (was out) r (left out) ⌝ }
+    ensures { λ r. ⌜ Stored (text-in (line-in (documents-in (was bytes) at) bar (entry-in (was bytes) at i))) next (was out) r
+        (left out) ⌝ }
 {
     let list = entry_list(bytes, at, i);
     let first = Postings::start(bytes, list.start, list.df);

@@ -35,7 +35,8 @@ enum-known-bar c = search needs
 draw-requires : tie.Need-draw-requires
 draw-requires c κs =
     let d = c .before .before .before .before in
-    on-paper _ _ (now (c .before .before .before .before .before .before .before .before .before .before .before .args .out)) _ (opens (d .before)) (sym (c .before .before .bar .given .1) ∙ d .find-bar .ensures)
+    on-paper _ _ (now (c .before .before .before .before .before .before .before .before .before .before .before .args .out)) _ (opens
+    (d .before)) (sym (c .before .before .bar .given .1) ∙ d .find-bar .ensures)
 
 enum-known-x-2 : tie.Need-enum-known-x-2
 enum-known-x-2 c = search needs
@@ -46,7 +47,8 @@ same-length c = search needs
 returns-2 : tie.Need-returns-2
 returns-2 c =
     let d = c .before .before .before .before .before .before .before in
-    sheet-on-paper _ _ _ _ (opens (d .before)) (sym (c .before .before .before .before .before .bar .given .1) ∙ d .find-bar .ensures) (c .before .before .draw .ensures)
+    sheet-on-paper _ _ _ _ (opens (d .before)) (sym (c .before .before .before .before .before .bar .given .1) ∙ d .find-bar .ensures)
+    (c .before .before .draw .ensures)
 
 returns-3 : tie.Need-returns-3
 returns-3 c =

@@ -59,7 +59,8 @@ returns-3 c =
     let i = c .before .before .before .before .before .before .before .before in
     let k = i .before in
     let s = k .before .before .before .before .before .before in
-    drawn-fits _ _ _ _ (on-paper-wide _ _ _ (s .pre)) (measured k) (i .if1 .left) (c .before .before .before .before .before .before .put-heading .ensures)
+    drawn-fits _ _ _ _ (on-paper-wide _ _ _ (s .pre)) (measured k) (i .if1 .left) (c .before .before .before .before .before .before
+    .put-heading .ensures)
     (c .before .before .put-lines .ensures)
 
 pub draw-spec : {M : Type 1} → statement M

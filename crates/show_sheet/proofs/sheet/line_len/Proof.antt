@@ -67,7 +67,8 @@ part-all-end c = search needs
 
 sub-name-len : tie.Need-sub-name-len
 sub-name-len c =
-    name-inside _ _ _ (c .before .entry-name .ensures) (inside (c .before .before .before .before .before .before .before .before .before .before)) .0
+    name-inside _ _ _ (c .before .entry-name .ensures) (inside (c .before .before .before .before .before .before .before .before
+    .before .before)) .0
 
 part-name-len-start : tie.Need-part-name-len-start
 part-name-len-start c =
@@ -75,7 +76,8 @@ part-name-len-start c =
 
 part-name-len-end : tie.Need-part-name-len-end
 part-name-len-end c =
-    name-inside _ _ _ (c .before .entry-name .ensures) (inside (c .before .before .before .before .before .before .before .before .before .before)) .1
+    name-inside _ _ _ (c .before .entry-name .ensures) (inside (c .before .before .before .before .before .before .before .before
+    .before .before)) .1
 
 name-len-requires : tie.Need-name-len-requires
 name-len-requires c κs = search needs
@@ -97,7 +99,8 @@ returns-2 c =
     let s = e .before .before in
     let a = s .args in
     line-measured _ _ _ _ (s .pre .0) (s .pre .1) (e .entry-list .ensures) (told h) (i .if1 .left)
-    (name-between (cut (now (a .bytes)) (a .at) .directory) (cut (now (a .bytes)) (a .at) .names) (a .i) (c .before .before .before .entry-name .ensures))
+    (name-between (cut (now (a .bytes)) (a .at) .directory) (cut (now (a .bytes)) (a .at) .names) (a .i) (c .before .before .before
+    .entry-name .ensures))
     (c .name-len .ensures)
 
 returns-3 : tie.Need-returns-3

@@ -59,8 +59,11 @@ loop-less c = search needs
 
 loop-again : tie.Need-loop-again Inv-loop μ-loop
 loop-again c =
-    let l = c .before .before .before .before .before .loop in
-    (omega (arith, most c, l .inv .0), measured-next _ _ _ _ _ _ (l .inv .1) (c .before .before .before .before .loop-test .taken) (counted c))
+    let l = c .before .before .before .before .before .loop in (
+      omega (arith, most c, l .inv .0),
+      measured-next _ _ _ _ _ _ (l .inv .1) (c .before .before .before .before .loop-test .taken)
+          (counted c),
+    )
 
 enum-known-x : tie.Need-enum-known-x Inv-loop μ-loop
 enum-known-x c = search needs
@@ -68,7 +71,8 @@ enum-known-x c = search needs
 returns : tie.Need-returns Inv-loop μ-loop
 returns c =
     let l = c .before .before .before .before .before in
-    measured-stop _ _ _ _ _ _ (l .loop .inv .1) (c .before .before .before .before .loop-test .taken) (sym (c .before .x .given .1) ∙ c .before .before .before .line-len .ensures)
+    measured-stop _ _ _ _ _ _ (l .loop .inv .1) (c .before .before .before .before .loop-test .taken) (sym (c .before .x .given .1) ∙ c
+    .before .before .before .line-len .ensures)
 
 returns-2 : tie.Need-returns-2 Inv-loop μ-loop
 returns-2 c =

@@ -50,7 +50,8 @@ returns : tie.Need-returns
 returns c =
     let blank = c .before .before .before .before .before .before .put-spaces .ensures in
     let len = c .before .before .before .before .before .before .before .before .before .before .put-number2 .ensures in
-    let id = c .before .before .before .before .before .before .before .before .before .before .before .before .before .before .before .put-number .ensures in
+    let id = c .before .before .before .before .before .before .before .before .before .before .before .before .before .before .before
+    .put-number .ensures in
     heading-stored _ _ id len blank (c .before .before .put-end .ensures)
 
 pub put-heading-spec : {M : Type 1} → statement M

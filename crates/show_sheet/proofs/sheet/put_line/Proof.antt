@@ -24,7 +24,8 @@ named : (n : tie.After-entry-name) → let a = n .before .before .before .before
     between (r .start) (r .end) (cut (now (a .bytes)) (a .at) .names)
     ≡ name-at (cut (now (a .bytes)) (a .at) .directory) (cut (now (a .bytes)) (a .at) .names) (a .i)
 named n =
-    let a = n .before .before .before .before .before .before .before .before .before .before .before .before .before .before .before .args in
+    let a = n .before .before .before .before .before .before .before .before .before .before .before .before .before .before .before
+    .args in
     name-between (cut (now (a .bytes)) (a .at) .directory) (cut (now (a .bytes)) (a .at) .names) (a .i) (n .entry-name .ensures)
 
 entry-list-requires : tie.Need-entry-list-requires
@@ -44,7 +45,8 @@ returns c =
     let k = c .before .before .before in
     let e = k .before .before .before .before in
     let s = e .before .before .before in
-    not-drawn _ _ _ _ (s .pre .0) (s .pre .1) (e .entry-list .ensures) (s .pre .2 .decoded) _ _ (k .before .before .before .start .ensures) (k .seek .ensures)
+    not-drawn _ _ _ _ (s .pre .0) (s .pre .1) (e .entry-list .ensures) (s .pre .2 .decoded) _ _ (k .before .before .before .start
+    .ensures) (k .seek .ensures)
     (λ h same. omega arith)
 
 returns-2 : tie.Need-returns-2
@@ -52,7 +54,8 @@ returns-2 c =
     let k = c .before .before .before .before .before .before in
     let e = k .before .before .before .before in
     let s = e .before .before .before in
-    not-drawn _ _ _ _ (s .pre .0) (s .pre .1) (e .entry-list .ensures) (s .pre .2 .decoded) _ _ (k .before .before .before .start .ensures) (k .seek .ensures)
+    not-drawn _ _ _ _ (s .pre .0) (s .pre .1) (e .entry-list .ensures) (s .pre .2 .decoded) _ _ (k .before .before .before .start
+    .ensures) (k .seek .ensures)
     (λ h same. omega (arith, c .if2 .taken, same))
 
 sub-entry-name : tie.Need-sub-entry-name
@@ -73,19 +76,32 @@ entry-name-requires c κs =
 
 sub-all : tie.Need-sub-all
 sub-all c =
-    omega (arith, ordered (c .before .before .before .before .before .before .before .before .before .before .before .before .before .before .before))
+    omega (
+      arith,
+      ordered (c .before .before .before .before .before .before .before .before .before .before .before .before .before
+          .before .before),
+    )
 
 part-all-start : tie.Need-part-all-start
 part-all-start c =
-    omega (arith, ordered (c .before .before .before .before .before .before .before .before .before .before .before .before .before .before .before))
+    omega (
+      arith,
+      ordered (c .before .before .before .before .before .before .before .before .before .before .before .before .before
+          .before .before),
+    )
 
 part-all-end : tie.Need-part-all-end
 part-all-end c =
-    omega (arith, ordered (c .before .before .before .before .before .before .before .before .before .before .before .before .before .before .before))
+    omega (
+      arith,
+      ordered (c .before .before .before .before .before .before .before .before .before .before .before .before .before
+          .before .before),
+    )
 
 sub-put-sound : tie.Need-sub-put-sound
 sub-put-sound c =
-    name-inside _ _ _ (c .before .entry-name .ensures) (inside (c .before .before .before .before .before .before .before .before .before .before .before .before .before .before .before .before)) .0
+    name-inside _ _ _ (c .before .entry-name .ensures) (inside (c .before .before .before .before .before .before .before .before
+    .before .before .before .before .before .before .before .before)) .0
 
 part-put-sound-start : tie.Need-part-put-sound-start
 part-put-sound-start c =
@@ -93,7 +109,8 @@ part-put-sound-start c =
 
 part-put-sound-end : tie.Need-part-put-sound-end
 part-put-sound-end c =
-    name-inside _ _ _ (c .before .entry-name .ensures) (inside (c .before .before .before .before .before .before .before .before .before .before .before .before .before .before .before .before)) .1
+    name-inside _ _ _ (c .before .entry-name .ensures) (inside (c .before .before .before .before .before .before .before .before
+    .before .before .before .before .before .before .before .before)) .1
 
 put-sound-requires : tie.Need-put-sound-requires
 put-sound-requires c κs =
@@ -119,7 +136,8 @@ returns-3 c =
     let k = i .before .before .before .before .before .before in
     let e = k .before .before .before .before in
     let s = e .before .before .before in
-    rw (line-drawn _ _ _ _ (s .pre .0) (s .pre .1) (e .entry-list .ensures) (s .pre .2 .decoded) _ _ (k .before .before .before .start .ensures)
+    rw (line-drawn _ _ _ _ (s .pre .0) (s .pre .1) (e .entry-list .ensures) (s .pre .2 .decoded) _ _ (k .before .before .before .start
+    .ensures)
     (k .seek .ensures) (omega arith) (i .if2 .left) (named (c .before .before .before .before .before .before)))
     (c .before .before .put-sound .ensures)
 

@@ -25,8 +25,12 @@ loop-holds c =
 put-line-requires : tie.Need-put-line-requires Inv-loop μ-loop
 put-line-requires c κs =
     let l = c .before .before in
-    let s = l .before .before .before .before in
-    (s .pre .0, omega (arith, l .before .long .ensures, c .before .loop-test .taken), left-room _ _ _ _ _ (c .before .loop-test .taken) (l .loop .inv))
+    let s = l .before .before .before .before in (
+      s .pre .0,
+      omega (arith, l .before .long .ensures, c .before .loop-test .taken),
+      left-room _ _ _ _ _ (c .before .loop-test .taken)
+          (l .loop .inv),
+    )
 
 add-i : tie.Need-add-i Inv-loop μ-loop
 add-i c = search needs
@@ -36,7 +40,8 @@ loop-less c = search needs
 
 loop-again : tie.Need-loop-again Inv-loop μ-loop
 loop-again c =
-    left-next _ _ _ _ _ (c .before .before .before .before .loop-test .taken) (c .before .before .before .before .before .loop .inv) (c .before .before .put-line .ensures)
+    left-next _ _ _ _ _ (c .before .before .before .before .loop-test .taken) (c .before .before .before .before .before .loop .inv) (c
+    .before .before .put-line .ensures)
 
 same-length : tie.Need-same-length Inv-loop μ-loop
 same-length c =
