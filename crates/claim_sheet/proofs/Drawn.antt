@@ -15,7 +15,7 @@ use Rattle.claim_sheet.specs.Words.{Sound-line, Sound-lines, none, silen
 use Rattle.claim_sheet.proofs.Marks.{mark-hit, mark-other, mark-past}
 use Rattle.claim_sheet.proofs.Hitting.{Fits, hits-of, hits-are, few-hits, are-hits}
 use Rattle.claim_sheet.proofs.First.{first-characters, heading-is, first-line}
-use Rattle.claim_sheet.proofs.Sound.{sound-characters, sound-line-is, is-line, step-at, has-name, has-number}
+use Rattle.claim_sheet.proofs.Sound.{sound-characters, sound-line-is, is-line, step-at, has-name, has-number, as-many}
 
 -- a line and its line feed in front of the other lines
 in-front : (line : List ℕ) (rest : List ℕ) (lines : List (List ℕ)) → rest ≡ in-bytes lines
@@ -44,6 +44,7 @@ module _ (id len : ℕ) (short : len ≤ 64) where
           inside = λ s x. below s (are s .1 x);
           hits = length hits;
           are-hits = are-hits id len t f;
+          drawn = as-many len (t .name) hits (f .rise) (λ s m. omega (arith, below s m));
           number = has-number len (t .name) hits;
         }
 

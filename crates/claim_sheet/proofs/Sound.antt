@@ -1,6 +1,6 @@
 -- A sound's line by its three parts: name, steps, number of hits.
 -- Assumes nothing.
-use mathlib.Core.Path.{_≡_, sym, ap, _∙_}
+use mathlib.Core.Path.{_≡_, refl, sym, ap, _∙_}
 use mathlib.Core.List.{List, [], _∷_, _++_, append-assoc}
 use mathlib.Core.Logic.{⊎-elim}
 use Prim.Native.Nat.{ℕ, suc, _+_, _-_, _/_, _%_, _≤_, _<_}
@@ -8,16 +8,17 @@ use native.Mathlib.Omega.{arith}
 use lib.ListN.{length, take, drop, getD, replicate, length-append, length-replicate, List·getD-append}
 use lib.Seq.{take-at, drop-at, getD-append-add}
 use borrow.Author.Tests.{lt-ltb, le-ltb}
+use Rattle.common.specs.Elements.{_∈_, Rising}
 use Rattle.common.proofs.Loops.{lt-or-ge}
 use Rattle.utf8.specs.Utf8.{text, decoded}
 use Rattle.utf8.proofs.Decoded.{text-append, scalars-append}
 use Rattle.calls.specs.Listing.{digits, fitted, name-column}
 use Rattle.calls.specs.Sheet.{right-justified, mark, marks, sound-line}
 use Rattle.calls.proofs.Characters.{fitted-length, column-scalars}
-use Rattle.claim_sheet.specs.Words.{Line, at-step}
+use Rattle.claim_sheet.specs.Words.{Line, at-step, times}
 use Rattle.claim_sheet.proofs.Printing.{plain-marks, plain-justified, plain-scalars, plain-text}
 use Rattle.claim_sheet.proofs.Printing.{unbroken-plain, unbroken-append, unbroken-fitted}
-use Rattle.claim_sheet.proofs.Marks.{marks-length, marks-at}
+use Rattle.claim_sheet.proofs.Marks.{marks-length, marks-at, marks-drawn}
 
 -- ---- a number of at most two digits in 4 columns
 
@@ -101,3 +102,13 @@ module _ (len : ℕ) (name hits : List ℕ) where
 
   pub has-number : drop 76 (sound-characters len name hits) ≡ count
   has-number = drop-at (front ++ steps) count 76 front-steps
+
+  has-steps : take 64 (drop 12 (sound-characters len name hits)) ≡ steps
+  has-steps =
+      ap (λ (l : List ℕ). take 64 (drop 12 l)) (append-assoc front steps count)
+      ∙ ap (take 64) (drop-at front (steps ++ count) 12 twelve)
+      ∙ take-at steps count 64 (marks-length len hits 64 0)
+
+  pub as-many : Rising hits → ((s : ℕ) → s ∈ hits → s < 64)
+      → length hits ≡ times 111 (take 64 (drop 12 (sound-characters len name hits)))
+  as-many r below = sym (ap (times 111) has-steps ∙ marks-drawn len 64 hits 64 0 refl r (λ s m. omega arith) below)

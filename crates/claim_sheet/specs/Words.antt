@@ -2,8 +2,10 @@
 -- but for numbers and names in their columns.
 use Prim.Native.Nat.{ℕ, _+_, _≤_, _<_}
 use mathlib.Core.Path.{_≡_}
+use mathlib.Core.Bool.{cond}
 use mathlib.Core.List.{List, [], _∷_, _++_}
 use mathlib.Core.Logic.{_↔_}
+use lib.Dec.{eqb}
 use lib.ListN.{length, take, drop, getD, replicate}
 use Rattle.common.specs.Elements.{_∈_, Rising}
 use Rattle.utf8.specs.Utf8.{Scalars, text, decoded}
@@ -42,6 +44,11 @@ pub record First-line (id len : ℕ) (line : List ℕ) : Type 0 where
 abbrev pub at-step : (line : List ℕ) (step : ℕ) → ℕ
 at-step line step = getD line (12 + step) 0
 
+-- how many times a character stands in a text
+unfoldable pub times : (character : ℕ) → List ℕ → ℕ
+times character [] = 0
+times character (c ∷ cs) = cond (eqb c character) 1 0 + times character cs
+
 -- a sound's line has its name, cut or padded to 12 characters, 64 steps, and the number of hits right-justified in 4 columns: a hit is o
 -- (111), another step of the bar a full stop (46), a step past its length blank (32); no hit is past its length
 pub record Sound-line (sound : Term) (id len : ℕ) (line : List ℕ) : Type 0 where
@@ -53,6 +60,8 @@ pub record Sound-line (sound : Term) (id len : ℕ) (line : List ℕ) : Type 0 w
   pub inside : (s : ℕ) → Hit sound id s → s < len
   pub hits : ℕ
   pub are-hits : Hits sound id hits
+  -- as many as there are o on the line
+  pub drawn : hits ≡ times 111 (take 64 (drop 12 line))
   pub number : drop 76 line ≡ right-justified 4 hits
 
 -- one line for each sound of the bar, in directory order: the bar's sounds are those that have a hit in it
