@@ -2,14 +2,14 @@
 -- Assumes nothing.
 use mathlib.Core.Path.{_≡_, refl, sym, ap, _∙_}
 use mathlib.Core.List.{List, [], _∷_}
-use mathlib.Core.Bool.{true}
+use mathlib.Core.Bool.{Bool, true, false, cond}
 use mathlib.Core.Option.{Option, none, some}
 use mathlib.Core.Logic.{⊎-elim}
 use Prim.Native.Nat.{ℕ, zero, suc, _^_, _≤_, _<_}
 use native.Mathlib.Omega.{arith}
 use lib.Dec.{ltb, eqb}
 use lib.ListN.{length, drop}
-use borrow.Author.Tests.{ltb-true, lt-ltb, le-ltb, eq-eqb, ne-eqb}
+use borrow.Author.Tests.{ltb-true, lt-ltb, le-ltb, eqb-true, eq-eqb, ne-eqb}
 use Rattle.common.proofs.Loops.{lt-or-ge}
 use Rattle.read_cursors.specs.declared.documents.Documents.{Documents}
 use Rattle.segment.specs.Refusals.{document-metadata, doc-id-overflow, invalid-layout, non-increasing-document-id}
@@ -108,6 +108,18 @@ length-below : (low id : ℕ) (ds : List Document) → Rising low ds → id < lo
 unfolding length-of
 length-below low id [] r h = refl
 length-below low id (d ∷ ds) r h = rw (ne-eqb (d .id) id (λ e. omega arith)) (length-below (suc (d .id)) id ds (r .3) (omega arith))
+
+-- a known id has 32 bits
+pub known-small : (low : ℕ) (ds : List Document) → Rising low ds → (id : ℕ) {len : ℕ} → length-of ds id ≡ some len → id < 2 ^ 32
+unfolding length-of
+known-small low [] r id e = let z : _≡_ {A = ℕ} 0 1 = cc in absurd (omega arith)
+known-small low (d ∷ ds) r id {len} e = by (eqb (d .id) id) refl e (λ f. known-small (suc (d .id)) ds (r .3) id f)
+  where
+    by : (t : Bool) → eqb (d .id) id ≡ t → cond t (some (d .len)) (length-of ds id) ≡ some len
+        → (length-of ds id ≡ some len → id < 2 ^ 32)
+        → id < 2 ^ 32
+    by true is e later = rw (← eqb-true (d .id) id is) (r .1)
+    by false is e later = later e
 
 -- the length at a cursor
 module _ (s : List ℕ) (at id len : ℕ) where

@@ -1,15 +1,15 @@
 -- The whole sheet in the lent buffer: its length, the reply, and what the buffer holds.
 -- Assumes nothing.
 use mathlib.Core.Path.{_≡_, refl, sym, ap, _∙_}
-use mathlib.Core.Bool.{Bool, true, false, cond}
+use mathlib.Core.Bool.{Bool, true, false}
 use mathlib.Core.List.{List, [], _∷_, _++_}
 use mathlib.Core.Option.{Option, none, some}
 use Prim.Native.Nat.{ℕ, zero, suc, _+_, _*_, _≤_, _<_}
 use native.Mathlib.Nat.{zero-add}
 use native.Mathlib.Omega.{arith}
-use lib.Dec.{leb, eqb}
+use lib.Dec.{leb}
 use lib.ListN.{length, drop, replicate, length-append, length-replicate}
-use borrow.Author.Tests.{le-leb, lt-leb, leb-true, eqb-true}
+use borrow.Author.Tests.{le-leb, lt-leb, leb-true}
 use Rattle.common.specs.Stores.{Stored}
 use Rattle.common.proofs.Sets.{sets-front}
 use Rattle.common.proofs.Stores.{stored-append, stored-length}
@@ -18,7 +18,7 @@ use Rattle.segment.specs.declared.replies.Counted.{Counted}
 use Rattle.segment.specs.declared.replies.Counted.the-variants.{Count, Refused}
 use Rattle.segment.specs.Refusals.{no-room, bar-too-long}
 use Rattle.segment.specs.Results.{Result, ok, refuse, _>>=_, check}
-use Rattle.segment.specs.Records.{Document, Term, Segment}
+use Rattle.segment.specs.Records.{Term}
 use Rattle.segment.specs.Metadata.{length-of}
 use Rattle.segment.specs.Opening.{open-segment}
 use Rattle.segment.specs.Contents.{decode-all}
@@ -28,7 +28,7 @@ use Rattle.read_open.specs.declared.header.Layout.{Layout}
 use Rattle.read_open.specs.declared.header.Opening.the-variants as opening
 use Rattle.read_open.specs.Steps.{cut}
 use Rattle.read_open.specs.Opened.{Opens}
-use Rattle.read_cursors.proofs.Documents-held.{Rising, held-rise}
+use Rattle.read_cursors.proofs.Documents-held.{held-rise, known-small}
 use Rattle.calls.specs.Listing.{column}
 use Rattle.calls.specs.Sheet.{heading, sound-lines, sheet, known-bar, bar-sheet, sheet-into}
 use Rattle.calls.specs.Replies.{count-of, filled}
@@ -54,23 +54,10 @@ pub heading-stored : (id len : ℕ) {out o₁ o₂ o₃ o₄ : List ℕ} {n₁ n
 unfolding heading
 heading-stored id len a b c d = stored-append (stored-append (stored-append a b) c) d
 
--- ids have 32 bits
-known-small : (low : ℕ) (ds : List Document) → Rising low ds → (id : ℕ) {len : ℕ} → length-of ds id ≡ some len → id < 10000000000
-unfolding length-of
-known-small low [] r id e = let z : _≡_ {A = ℕ} 0 1 = cc in absurd (omega arith)
-known-small low (d ∷ ds) r id {len} e = by (eqb (d .id) id) refl e (λ f. known-small (suc (d .id)) ds (r .3) id f)
-  where
-    by : (t : Bool) → eqb (d .id) id ≡ t → cond t (some (d .len)) (length-of ds id) ≡ some len
-        → (length-of ds id ≡ some len → id < 10000000000)
-        → id < 10000000000
-    by true is e later = omega (arith, eqb-true (d .id) id is)
-    by false is e later = later e
-
 pub on-paper-wide : (bytes : List ℕ) (l : Layout) (bar : Bar) → On-paper bytes l bar → length (heading (bar .id .0) (bar .len)) ≡ 81
 on-paper-wide bytes l bar p =
-    heading-length (bar .id .0) (bar .len)
-    (known-small 0 (documents-in bytes l) (held-rise (l .documents) none (cut bytes l .metadata)) (bar .id .0) (p .known))
-    (omega (arith, p .short))
+    let small = known-small 0 (documents-in bytes l) (held-rise (l .documents) none (cut bytes l .metadata)) (bar .id .0) (p .known) in
+    heading-length (bar .id .0) (bar .len) (omega arith) (omega (arith, p .short))
 
 -- ---- how long it can be
 

@@ -24,7 +24,7 @@ use Rattle.read_open.specs.Steps.{cut, name-at}
 use Rattle.read_terms.specs.declared.find.TermList.{TermList}
 use Rattle.read_terms.specs.Steps.{Entry-list, entry-named, list-entry}
 use Rattle.read_terms.proofs.Finding.{nameless, tally-refused}
-use Rattle.read_terms.proofs.In-document.{told-in}
+use Rattle.read_terms.proofs.In-document.{told-in, own-few}
 use Rattle.read_terms.proofs.Longer.{decoded-walked, read-counts}
 use Rattle.read_positions.proofs.Sought.{sought-none, sought-these, sought-many}
 use Rattle.calls.specs.Listing.{name-column}
@@ -34,7 +34,7 @@ use Rattle.calls.specs.Sheet.{sound-line, line-of}
 use Rattle.show_steps.proofs.Lines.{sound-length, sound-most}
 use Rattle.show_sheet.specs.declared.bar.Bar.{Bar}
 use Rattle.show_sheet.specs.Steps.{documents-in, On-paper, entry-in, line-in, text-in, Decoded}
-use Rattle.show_sheet.proofs.Hits.{hits-few, sought-some}
+use Rattle.show_sheet.proofs.Hits.{sought-some}
 
 -- ---- with hits, and without
 
@@ -46,7 +46,7 @@ line-some : (len : ℕ) (name hits : List ℕ) → 0 < length hits → line-of l
 line-some len name [] h = absurd (omega arith)
 line-some len name (x ∷ xs) h = refl
 
-line-most : (len : ℕ) (name hits : List ℕ) → length hits < 10000 → length (line-of len name hits) ≤ 117
+pub line-most : (len : ℕ) (name hits : List ℕ) → length hits < 10000 → length (line-of len name hits) ≤ 117
 line-most len name [] h = omega arith
 line-most len name (x ∷ xs) h = sound-most len name (x ∷ xs) h
 
@@ -67,7 +67,7 @@ module _ (bytes : List ℕ) (l : Layout) (bar : Bar) (i : ℕ) (paper : On-paper
   line-is d = rw d
 
   few : {ps : List Posting} → decode documents (entry-in bytes l i) ≡ ok ps → length (positions-of ps (bar .id .0)) ≤ 64
-  few d = omega (arith, hits-few documents (bar .id .0) (bar .len) (paper .known) (entry-in bytes l i) d, paper .short)
+  few d = omega (arith, own-few documents (bar .id .0) (bar .len) (paper .known) (entry-in bytes l i) d, paper .short)
 
   line-decodes : Decoded line → (ps : List Posting) × (decode documents (entry-in bytes l i) ≡ ok ps)
   unfolding line-in
