@@ -17,8 +17,9 @@ use Rattle.segment.proofs.Binds.{bind-gives, ok-same, refuse-ok}
 use Rattle.segment.proofs.Accepted.{check-gives}
 use Rattle.calls.specs.Sheet.{sheet, known-bar, bar-sheet}
 use Rattle.claim_sheet.specs.Words.{On-paper}
-use Rattle.claim_sheet.specs.Claims.{In-words, Sheet-in-words}
-use Rattle.claim_sheet.proofs.Decoding.{all-fit, known-small}
+use Rattle.claim_sheet.specs.Claims.{Has-bar, In-words, Sheet-in-words}
+use Rattle.claim_sheet.proofs.Bar-known.{bar-small, bar-gives, bar-from}
+use Rattle.claim_sheet.proofs.Decoding.{all-fit}
 use Rattle.claim_sheet.proofs.Drawn.{on-paper}
 use Rattle.claim_sheet.proofs.Same.{one-sheet}
 
@@ -27,17 +28,17 @@ known-some none e = refuse-ok e
 known-some (some n) e = ap some (ok-same e)
 
 module _ (bytes : List ℕ) (id : ℕ) where
-  module _ {s : Segment} {len : ℕ} {ts : List Term} (opens : open-segment bytes ≡ ok s) (known : length-of (s .documents) id ≡ some len)
+  module _ {s : Segment} {len : ℕ} {ts : List Term} (opens : open-segment bytes ≡ ok s) (known : Has-bar s id len)
       (short : len ≤ 64) (all : decode-all (s .documents) (s .entries) ≡ ok ts) where
     -- what is computed, once all that may be refused is not
     pub computed : bar-sheet bytes id ≡ ok (sheet id len ts)
     unfolding bar-sheet
-    computed = rw (opens, known, le-leb len 64 short, all)
+    computed = rw (opens, bar-from bytes opens id len known, le-leb len 64 short, all)
 
     pub shown-paper : On-paper id len ts (sheet id len ts)
     shown-paper =
-        let small = known-small bytes opens id len known in
-        on-paper id len short (omega arith) ts (all-fit (s .documents) id len known (s .entries) all)
+        let small = bar-small bytes opens id len known in
+        on-paper id len short (omega arith) ts (all-fit (s .documents) id len (bar-from bytes opens id len known) (s .entries) all)
 
   module _ (text : List ℕ) where
     gives : bar-sheet bytes id ≡ ok text → In-words bytes id text
@@ -47,7 +48,7 @@ module _ (bytes : List ℕ) (id : ℕ) where
         let (len, k, g) = bind-gives (known-bar (length-of (s .documents) id)) _ f in
         let (t, h) = check-gives (leb len 64) bar-too-long _ g in
         let (ts, all, i) = bind-gives (decode-all (s .documents) (s .entries)) _ h in
-        let known = known-some (length-of (s .documents) id) k in
+        let known = bar-gives bytes opens id len (known-some (length-of (s .documents) id) k) in
         let short = leb-true len 64 t in
         record {
           segment = s;

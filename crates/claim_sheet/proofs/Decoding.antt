@@ -1,24 +1,19 @@
--- What decoding gives of every sound: its documents rise, the bar's positions rise and are below its length. What opening gives: ids below
--- 2 ^ 32.
+-- What decoding gives of every sound: its documents rise, the bar's positions rise and are below its length.
 -- Assumes nothing.
-use mathlib.Core.Path.{_≡_, refl, sym, ap, _∙_, subst}
+use mathlib.Core.Path.{_≡_, sym, subst}
 use mathlib.Core.Bool.{Bool, true, false, cond}
 use mathlib.Core.List.{List, [], _∷_, map}
 use mathlib.Core.Option.{Option, none, some}
-use Prim.Native.Nat.{ℕ, suc, _^_, _<_}
-use native.Mathlib.Omega.{arith}
+use Prim.Native.Nat.{ℕ}
 use lib.Dec.{eqb}
-use borrow.Author.Tests.{eqb-true}
 use Rattle.common.specs.Elements.{_∈_, Rising}
 use Rattle.common.proofs.Elements.{each}
 use Rattle.crc32.specs.Crc32.{crc32Of}
 use Rattle.segment.specs.Refusals.{term-postings, checksum-mismatch}
 use Rattle.segment.specs.Results.{ok}
-use Rattle.segment.specs.Records.{Document, Posting, Term, Entry, Segment}
-use Rattle.segment.specs.Metadata.{metadata, length-of}
+use Rattle.segment.specs.Records.{Document, Posting, Term, Entry}
+use Rattle.segment.specs.Metadata.{length-of}
 use Rattle.segment.specs.Postings.{decode}
-use Rattle.segment.specs.Directory.{directory}
-use Rattle.segment.specs.Opening.{sections, checksums, contents, open-segment}
 use Rattle.segment.specs.Contents.{decode-all}
 use Rattle.segment.proofs.Binds.{bind-gives, ok-same}
 use Rattle.segment.proofs.Accepted.{check-gives}
@@ -28,7 +23,6 @@ use Rattle.calls.proofs.Posted.{docs}
 use Rattle.calls.proofs.Below.{decoded-below}
 use Rattle.read_cursors.specs.Held.{Posting-at, posting-of, held-postings, Rises, All-full}
 use Rattle.read_cursors.proofs.Posting-reads.{all-postings-read}
-use Rattle.read_cursors.proofs.Documents-held as held
 use Rattle.claim_sheet.proofs.Hitting.{Fits}
 
 -- ---- a list that was decoded
@@ -73,28 +67,3 @@ module _ (documents : List Document) (id len : ℕ) (known : length-of documents
       each (Fits id len) (record { name = e .name; postings = ps }) more
       (record { documents-rise = r; rise = own; below = decoded-below documents id len known e is })
       (all-fit es those) t (subst (λ (ts : List Term). t ∈ ts) (sym (ok-same g)) m)
-
--- ---- ids
-
-id-small : (low : ℕ) (ds : List Document) → held.Rising low ds → (id len : ℕ) → length-of ds id ≡ some len → id < 2 ^ 32
-unfolding length-of
-id-small low [] r id len e = let z : _≡_ {A = ℕ} 0 1 = cc in absurd (omega arith)
-id-small low (d ∷ ds) (up, small, short, r) id len e = step (eqb (d .id) id) refl e (id-small (suc (d .id)) ds r id len)
-  where
-    step : (t : Bool) → eqb (d .id) id ≡ t → cond t (some (d .len)) (length-of ds id) ≡ some len
-        → (length-of ds id ≡ some len → id < 2 ^ 32) → id < 2 ^ 32
-    step true t e later = rw (eqb-true (d .id) id t) at small
-    step false t e later = later e
-
-pub known-small : (bytes : List ℕ) {s : Segment} → open-segment bytes ≡ ok s → (id len : ℕ) → length-of (s .documents) id ≡ some len
-    → id < 2 ^ 32
-unfolding open-segment contents
-known-small bytes {s} o id len known =
-    let (parts, _, f) = bind-gives (sections bytes) _ o in
-    let (_, _, g) = bind-gives (checksums bytes parts) _ f in
-    let (ds, is, h) = bind-gives (metadata (parts .documents) (parts .metadata)) _ g in
-    let (es, _, k) = bind-gives (directory (parts .terms) (parts .directory) (parts .names) (parts .lists)) _ h in
-    let same : ds ≡ s .documents = ap (λ (x : Segment). x .documents) (ok-same k) in
-    let all = held.metadata-held (parts .documents) (parts .metadata) is .0 in
-    id-small 0 (s .documents)
-    (subst (held.Rising 0) (all ∙ same) (held.held-rise (parts .documents) none (parts .metadata))) id len known

@@ -32,8 +32,9 @@ module _ (id len : ℕ) (short : len ≤ 64) where
         let are = hits-are id t (f .documents-rise) in
         let at = step-at len (t .name) hits in
         let below = below-gives len hits (f .below) in
+        let few : length hits ≤ 64 = omega (arith, few-hits id len t f) in
         record {
-          is-line = is-line len (t .name) hits (omega (arith, few-hits id len t f));
+          is-line = is-line len (t .name) hits few;
           name = has-name len (t .name) hits;
           hit = λ s h. (
             λ e. are s .0 (mark-hit len hits s .0 (sym (at s h) ∙ e)),
@@ -45,7 +46,7 @@ module _ (id len : ℕ) (short : len ≤ 64) where
           hits = length hits;
           are-hits = are-hits id len t f;
           drawn = as-many len (t .name) hits (f .rise) (λ s m. omega (arith, below s m));
-          number = has-number len (t .name) hits;
+          number = has-number len (t .name) hits few;
         }
 
   -- ---- all of them

@@ -1,4 +1,4 @@
--- Opening and decoding refuse with kinds of document 01 only: 16 and 17 are none of theirs.
+-- Opening and decoding refuse with kinds up to 10: 12, 13, 16 and 17 are none of theirs.
 -- Assumes nothing.
 use mathlib.Core.Path.{_≡_, refl}
 use mathlib.Core.Bool.{Bool, true, false}
@@ -23,25 +23,25 @@ use Rattle.segment.specs.Postings.{all-postings, decode}
 use Rattle.segment.specs.Opening.{magic, Sections, ranges, sections, section-checksum, checksums, contents, open-segment}
 use Rattle.segment.specs.Contents.{decode-all}
 
--- the kind of a refusal is below 14
+-- the kind of a refusal is below 11
 pub record Early {A : Type 0} (r : Result A) : Type 0 where
-  pub kind : (x : Refusal) → r ≡ refuse x → x .kind < 14
+  pub kind : (x : Refusal) → r ≡ refuse x → x .kind < 11
 
 accepts : {A : Type 0} {a : A} → Early (ok a)
 accepts = record { kind = λ x e. let z : _≡_ {A = ℕ} 0 1 = cc in absurd (omega arith) }
 
-refuses : {A : Type 0} (x : Refusal) → x .kind < 14 → Early {A = A} (refuse x)
+refuses : {A : Type 0} (x : Refusal) → x .kind < 11 → Early {A = A} (refuse x)
 refuses x h = record { kind = λ y e. let same : x ≡ y = cc in rw (← same) h }
 
 then : {A B : Type 0} {r : Result A} (f : A → Result B) → Early r → ((a : A) → Early (f a)) → Early (r >>= f)
 then {r = ok a} f e h = h a
 then {r = refuse x} f e h = refuses x (e .kind x refl)
 
-test : {B : Type 0} (t : Bool) (x : Refusal) (f : Unit {0} → Result B) → x .kind < 14 → Early (f tt) → Early (check t x >>= f)
+test : {B : Type 0} (t : Bool) (x : Refusal) (f : Unit {0} → Result B) → x .kind < 11 → Early (f tt) → Early (check t x >>= f)
 test true x f h e = e
 test false x f h e = refuses x h
 
-last : (t : Bool) (x : Refusal) → x .kind < 14 → Early (check t x)
+last : (t : Bool) (x : Refusal) → x .kind < 11 → Early (check t x)
 last true x h = accepts
 last false x h = refuses x h
 
@@ -141,7 +141,7 @@ opening-early bytes =
 
 -- ---- decoding
 
-a-value : (overflow order : Refusal) → overflow .kind < 14 → order .kind < 14 → (index : ℕ) (previous : Option ℕ) (bytes : List ℕ)
+a-value : (overflow order : Refusal) → overflow .kind < 11 → order .kind < 11 → (index : ℕ) (previous : Option ℕ) (bytes : List ℕ)
     → Early (read-value overflow order index previous bytes)
 unfolding read-value
 a-value overflow order h k index previous bytes =

@@ -1,6 +1,6 @@
 -- The first line in words: id and length in 10 columns each, then blanks.
 -- Assumes nothing.
-use mathlib.Core.Path.{_≡_, sym, ap, _∙_}
+use mathlib.Core.Path.{_≡_, sym, ap, _∙_, subst}
 use mathlib.Core.List.{List, [], _∷_, _++_, append-assoc}
 use Prim.Native.Nat.{ℕ, _<_}
 use native.Mathlib.Omega.{arith}
@@ -10,7 +10,8 @@ use Rattle.utf8.specs.Utf8.{text}
 use Rattle.calls.specs.Listing.{column}
 use Rattle.calls.specs.Sheet.{heading}
 use Rattle.show_columns.proofs.Columns.{column-length}
-use Rattle.claim_sheet.specs.Words.{First-line}
+use Rattle.claim_sheet.specs.Words.{In-columns, First-line}
+use Rattle.claim_sheet.proofs.Decimals.{in-ten}
 use Rattle.claim_sheet.proofs.Printing.{Plain, plain-append, plain-blanks, plain-column, plain-scalars, plain-text, unbroken-plain}
 
 abbrev pub first-characters : (id len : ℕ) → List ℕ
@@ -47,9 +48,16 @@ module _ (id len : ℕ) where
             wide = omega (arith, length-append (column id ++ column len) blanks, both, length-replicate {0} {A = ℕ} 60 32);
             one-line = unbroken-plain (first-characters id len) plain-first;
           };
-          has-id = ap (take 10) parts ∙ take-at (column id) (column len ++ blanks) 10 ten;
+          has-id =
+              subst (In-columns 10 id) (sym (ap (take 10) parts ∙ take-at (column id) (column len ++ blanks) 10 ten)) (in-ten id small);
           has-length =
-              ap (λ (l : List ℕ). take 10 (drop 10 l)) parts ∙ ap (take 10) (drop-at (column id) (column len ++ blanks) 10 ten)
-              ∙ take-at (column len) blanks 10 again;
+              subst (In-columns 10 len)
+              (sym (ap (λ (l : List ℕ). take 10 (drop 10 l)) parts ∙ ap (take 10) (drop-at (column id) (column len ++ blanks) 10 ten)
+              ∙ take-at (column len) blanks 10 again))
+              (in-ten len short);
           blanks = drop-at (column id ++ column len) blanks 20 both;
         }
+
+    pub heading-length : length (heading id len) ≡ 81
+    unfolding heading
+    heading-length = omega (arith, length-append (first-characters id len) (10 ∷ []), first-line .is-line .wide)

@@ -2,13 +2,17 @@
 pub mod Printing
 pub mod Marks
 pub mod Hitting
+pub mod Bar-known
 pub mod Decoding
+pub mod Decimals
 pub mod First
 pub mod Sound
 pub mod Drawn
 pub mod Same
 pub mod Agreed
 pub mod Lines-eighty
+pub mod Enough
+pub mod In-order
 pub mod Early
 pub mod Refusing
 pub mod Standing

@@ -12,7 +12,7 @@ use lib.ListN.{length}
 use borrow.Author.Tests.{leb-true, leb-false, le-leb, lt-leb}
 use Rattle.segment.specs.declared.refusal.Refusal.{Refusal}
 use Rattle.segment.specs.Refusals.{unknown-bar, bar-too-long, no-room}
-use Rattle.segment.specs.Results.{Result, ok, refuse, _>>=_, check, roomy}
+use Rattle.segment.specs.Results.{ok, refuse, check, roomy}
 use Rattle.segment.specs.Records.{Segment}
 use Rattle.segment.specs.Metadata.{length-of}
 use Rattle.segment.specs.Opening.{open-segment}
@@ -21,22 +21,12 @@ use Rattle.segment.proofs.Binds.{bind-gives, ok-same}
 use Rattle.segment.proofs.Accepted.{check-gives}
 use Rattle.segment.proofs.Inversions.{last-gives}
 use Rattle.calls.specs.Sheet.{known-bar, bar-sheet, sheet-into}
-use Rattle.claim_sheet.specs.Claims.{Refused, opening, unknown, too-long, decoding, Refuses-exactly, Unknown-exactly}
-use Rattle.claim_sheet.specs.Claims.{Too-long-exactly, No-room-last, Room-enough}
+use Rattle.claim_sheet.specs.Claims.{Has-bar, First-refused, Refused, opening, unknown, too-long, decoding}
+use Rattle.claim_sheet.specs.Claims.{Refuses-exactly, Unknown-exactly, Too-long-exactly, Other-kinds, No-room-last, Room-enough}
+use Rattle.claim_sheet.proofs.Bar-known.{bar-gives, bar-from, none-gives, none-from}
+use Rattle.claim_sheet.proofs.In-order.{ok-refuse, refuse-same, refused-by, first-gives, first-from}
 use Rattle.claim_sheet.proofs.Early.{opening-early, decoding-early}
 use Rattle.claim_sheet.proofs.Agreed.{known-some}
-
-pub ok-refuse : {A : Type 0} {P : Type 0} {a : A} {x : Refusal} → ok a ≡ refuse x → P
-ok-refuse e = let z : _≡_ {A = ℕ} 0 1 = cc in absurd (omega arith)
-
-pub refuse-same : {A : Type 0} {x y : Refusal} → _≡_ {A = Result A} (refuse x) (refuse y) → x ≡ y
-refuse-same e = cc
-
--- a chain that refuses: its first step does, or what follows on its value
-refused-by : {A B : Type 0} (r : Result A) (f : A → Result B) {x : Refusal} → (r >>= f) ≡ refuse x
-    → (r ≡ refuse x) ⊎ ((a : A) × (r ≡ ok a) × (f a ≡ refuse x))
-refused-by (ok a) f e = inr (a, refl, e)
-refused-by (refuse y) f e = inl (ap refuse (refuse-same e))
 
 check-refuses : (t : Bool) (y : Refusal) {x : Refusal} → check t y ≡ refuse x → (t ≡ false) × (y ≡ x)
 check-refuses true y e = ok-refuse e
@@ -54,16 +44,18 @@ module _ (bytes : List ℕ) (id : ℕ) (x : Refusal) where
     there = length-of (s .documents) id
 
     no-bar : known-bar there ≡ refuse x → Refused bytes id x
-    no-bar e = let (k, is) = bar-refuses there e in subst (Refused bytes id) is (unknown opens k)
+    no-bar e = let (k, is) = bar-refuses there e in subst (Refused bytes id) is (unknown opens (none-gives bytes opens id k))
 
     module _ {len : ℕ} (k : known-bar there ≡ ok len) where
       long-bar : check (leb len 64) bar-too-long ≡ refuse x → Refused bytes id x
       long-bar e =
           let (t, is) = check-refuses (leb len 64) bar-too-long e in
-          subst (Refused bytes id) is (too-long opens (known-some there k) (leb-false len 64 t))
+          subst (Refused bytes id) is (too-long opens (bar-gives bytes opens id len (known-some there k)) (leb-false len 64 t))
 
       no-list : check (leb len 64) bar-too-long ≡ ok tt → decode-all (s .documents) (s .entries) ≡ refuse x → Refused bytes id x
-      no-list t d = decoding opens (known-some there k) (leb-true len 64 (last-gives (leb len 64) bar-too-long t)) d
+      no-list t d =
+          decoding opens (bar-gives bytes opens id len (known-some there k)) (leb-true len 64 (last-gives (leb len 64) bar-too-long t))
+          (first-gives (s .documents) (s .entries) d)
 
   gives : bar-sheet bytes id ≡ refuse x → Refused bytes id x
   unfolding bar-sheet
@@ -79,30 +71,43 @@ module _ (bytes : List ℕ) (id : ℕ) (x : Refusal) where
 from : (bytes : List ℕ) (id : ℕ) {x : Refusal} → Refused bytes id x → bar-sheet bytes id ≡ refuse x
 unfolding bar-sheet
 from bytes id (opening o) = rw o
-from bytes id (unknown o k) = rw (o, k)
-from bytes id (too-long {len = len} o k far) = rw (o, k, lt-leb len 64 far)
-from bytes id (decoding {len = len} o k short d) = rw (o, k, le-leb len 64 short, d)
+from bytes id (unknown o k) = rw (o, none-from bytes o id k)
+from bytes id (too-long {len = len} o k far) = rw (o, bar-from bytes o id len k, lt-leb len 64 far)
+from bytes id (decoding {s = s} {len = len} o k short d) =
+    rw (o, bar-from bytes o id len k, le-leb len 64 short, first-from (s .documents) (s .entries) d)
 
 pub refuses-exactly : Refuses-exactly
 refuses-exactly bytes id x = (gives bytes id x, from bytes id)
 
 -- ---- 16 and 17
 
+list-early : (s : Segment) {x : Refusal} → First-refused (s .documents) (s .entries) x → x .kind < 11
+list-early s {x} d = decoding-early (s .documents) (s .entries) .kind x (first-from (s .documents) (s .entries) d)
+
 module _ (bytes : List ℕ) (id : ℕ) where
   -- no other test refuses with that kind
   sixteen : {x : Refusal} → Refused bytes id x → x .kind ≡ 16
-      → (s : Segment) × (open-segment bytes ≡ ok s) × (length-of (s .documents) id ≡ none)
+      → (s : Segment) × (open-segment bytes ≡ ok s) × ((len : ℕ) → Has-bar s id len → ⊥)
   sixteen (opening {x = x} o) e = absurd (omega (arith, opening-early bytes .kind x o))
   sixteen (unknown {s = s} o k) e = (s, o, k)
   sixteen (too-long o k far) e = absurd (omega arith)
-  sixteen (decoding {s = s} {x = x} o k short d) e = absurd (omega (arith, decoding-early (s .documents) (s .entries) .kind x d))
+  sixteen (decoding {s = s} o k short d) e = absurd (omega (arith, list-early s d))
 
   seventeen : {x : Refusal} → Refused bytes id x → x .kind ≡ 17
-      → (s : Segment) × (len : ℕ) × (open-segment bytes ≡ ok s) × (length-of (s .documents) id ≡ some len) × (64 < len)
+      → (s : Segment) × (len : ℕ) × (open-segment bytes ≡ ok s) × Has-bar s id len × (64 < len)
   seventeen (opening {x = x} o) e = absurd (omega (arith, opening-early bytes .kind x o))
   seventeen (unknown o k) e = absurd (omega arith)
   seventeen (too-long {s = s} {len = len} o k far) e = (s, len, o, k, far)
-  seventeen (decoding {s = s} {x = x} o k short d) e = absurd (omega (arith, decoding-early (s .documents) (s .entries) .kind x d))
+  seventeen (decoding {s = s} o k short d) e = absurd (omega (arith, list-early s d))
+
+  others : {x : Refusal} → Refused bytes id x → (x ≡ unknown-bar) ⊎ (x ≡ bar-too-long) ⊎ (x .kind ≤ 10)
+  others (opening {x = x} o) = inr (inr (omega (arith, opening-early bytes .kind x o)))
+  others (unknown o k) = inl refl
+  others (too-long o k far) = inr (inl refl)
+  others (decoding {s = s} o k short d) = inr (inr (omega (arith, list-early s d)))
+
+pub other-kinds : Other-kinds
+other-kinds bytes id x e = others bytes id (gives bytes id x e)
 
 pub unknown-exactly : Unknown-exactly
 unknown-exactly bytes id = (

@@ -1,6 +1,6 @@
 -- The words leave no choice: two texts that are the same bar on paper are one.
 -- Assumes nothing.
-use mathlib.Core.Path.{_≡_, refl, sym, ap, ap₂, _∙_}
+use mathlib.Core.Path.{_≡_, refl, sym, ap, ap₂, _∙_, subst}
 use mathlib.Core.Bool.{Bool, true, false}
 use mathlib.Core.List.{List, _∷_, _++_}
 use mathlib.Core.Logic.{⊎-elim}
@@ -13,9 +13,10 @@ use borrow.Author.Tests.{eqb-true, eqb-false}
 use Rattle.common.proofs.Loops.{lt-or-ge}
 use Rattle.common.proofs.Rising.{rising-unique}
 use Rattle.segment.specs.Records.{Term}
-use Rattle.calls.specs.Sheet.{right-justified}
-use Rattle.claim_sheet.specs.Words.{Hit, Hits, First-line, Sound-line, Sound-lines, none, silent, drawn, at-step, in-bytes}
+use Rattle.claim_sheet.specs.Words.{Hit, Hits, In-columns, First-line, Sound-line, Sound-lines, none, silent, drawn}
+use Rattle.claim_sheet.specs.Words.{at-step, in-bytes}
 use Rattle.claim_sheet.specs.Claims.{One-sheet}
+use Rattle.claim_sheet.proofs.Decimals.{columns-same}
 
 -- ---- the first line
 
@@ -28,7 +29,7 @@ parts line =
 first-same : (id len : ℕ) (x y : List ℕ) → First-line id len x → First-line id len y → x ≡ y
 first-same id len x y a b =
     parts x
-    ∙ cc (a .has-id, a .has-length, a .blanks, b .has-id, b .has-length, b .blanks)
+    ∙ cc (columns-same (a .has-id) (b .has-id), columns-same (a .has-length) (b .has-length), a .blanks, b .blanks)
     ∙ sym (parts y)
 
 -- ---- a sound's line
@@ -62,7 +63,8 @@ module _ (t : Term) (id len : ℕ) (x y : List ℕ) (a : Sound-line t id len x) 
 
   count-same : drop 76 x ≡ drop 76 y
   count-same =
-      a .number ∙ ap (right-justified 4) (number-same t id (a .hits) (b .hits) (a .are-hits) (b .are-hits)) ∙ sym (b .number)
+      let same = number-same t id (a .hits) (b .hits) (a .are-hits) (b .are-hits) in
+      columns-same (subst (λ (n : ℕ). In-columns 4 n (drop 76 x)) same (a .number)) (b .number)
 
   place-same : (i : ℕ) → getD x i 0 ≡ getD y i 0
   place-same i = ⊎-elim

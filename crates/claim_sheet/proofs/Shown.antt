@@ -1,6 +1,6 @@
 -- Of what was written, the sheet shows what was handed in, and refuses 16 and 17 only.
 -- Assumes nothing.
-use mathlib.Core.Path.{_≡_, refl, sym, ap, ap₂, _∙_, subst}
+use mathlib.Core.Path.{_≡_, refl, sym, ap, _∙_, subst}
 use mathlib.Core.List.{List}
 use mathlib.Core.Logic.{_⊎_, ⊎-elim, inl, inr}
 use mathlib.Core.Option.{Option, none, some}
@@ -13,7 +13,6 @@ use Rattle.segment.specs.Refusals.{unknown-bar, bar-too-long}
 use Rattle.segment.specs.Results.{ok, refuse}
 use Rattle.segment.specs.Records.{Document, Segment, Given}
 use Rattle.segment.specs.Metadata.{document, length-of}
-use Rattle.segment.specs.Postings.{known}
 use Rattle.segment.specs.Opening.{open-segment}
 use Rattle.segment.specs.Contents.{decode-all, decode-segment}
 use Rattle.segment.proofs.Binds.{bind-gives, ok-same}
@@ -21,25 +20,16 @@ use Rattle.calls.specs.Given.{Lists, given}
 use Rattle.calls.specs.Acceptance.{Lists-fine}
 use Rattle.calls.specs.Sheet.{sheet, bar-sheet}
 use Rattle.calls.proofs.Accepts.{accepted-gives}
-use Rattle.calls.proofs.Known.{known-gives, known-from}
 use Rattle.roundtrip.proofs.ReadsBack.{reads-back}
 use Rattle.claim_sheet.specs.Words.{On-paper}
-use Rattle.claim_sheet.specs.Claims.{unknown, too-long}
+use Rattle.claim_sheet.specs.Claims.{Has-bar, unknown, too-long}
 use Rattle.claim_sheet.specs.Written.{Bar, Shows-what-was-handed-in, Sheet-of-what-was-written}
 use Rattle.claim_sheet.proofs.Same.{one-sheet}
 use Rattle.claim_sheet.proofs.Agreed.{computed, shown-paper}
-use Rattle.claim_sheet.proofs.Refusing.{ok-refuse, refuse-same, refuses-exactly}
+use Rattle.claim_sheet.proofs.Bar-known.{bar-gives, none-gives}
+use Rattle.claim_sheet.proofs.In-order.{ok-refuse, refuse-same}
+use Rattle.claim_sheet.proofs.Refusing.{refuses-exactly}
 use Rattle.claim_sheet.proofs.Standing.{hits-stand}
-
--- a bar handed in is the one that a length is found for
-module _ (l : Lists) (fine : Lists-fine l) (id : ℕ) where
-  bar-known : (len : ℕ) → Bar l id len → length-of (given l .documents) id ≡ some len
-  bar-known len b = known-from (given l .documents) (fine .documents-rise) (document id len) b
-
-  known-bar : (len : ℕ) → length-of (given l .documents) id ≡ some len → Bar l id len
-  known-bar len e =
-      let f = known-gives (given l .documents) id len (ap known e) in
-      subst (λ (d : Document). d ∈ given l .documents) (ap₂ document (f .same) (f .length)) (f .known)
 
 -- the bytes written open as what was handed in, and every list is decoded
 record Opened (l : Lists) (bytes : List ℕ) : Type 0 where
@@ -61,8 +51,12 @@ opened l bytes back =
     }
 
 module _ (l : Lists) (fine : Lists-fine l) (bytes : List ℕ) (w : Opened l bytes) (id : ℕ) where
-  length-there : {o : Option ℕ} → length-of (given l .documents) id ≡ o → length-of (w .segment .documents) id ≡ o
-  length-there e = ap (λ (ds : List Document). length-of ds id) (w .documents) ∙ e
+  -- the bars of the segment are those handed in
+  bar-there : (len : ℕ) → Bar l id len → Has-bar (w .segment) id len
+  bar-there len b = subst (λ (ds : List Document). document id len ∈ ds) (sym (w .documents)) b
+
+  bar-here : (len : ℕ) → Has-bar (w .segment) id len → Bar l id len
+  bar-here len b = subst (λ (ds : List Document). document id len ∈ ds) (w .documents) b
 
   data Outcome : Type 0 where
     is-unknown : ((len : ℕ) → Bar l id len → ⊥) → bar-sheet bytes id ≡ refuse unknown-bar → Outcome
@@ -70,21 +64,22 @@ module _ (l : Lists) (fine : Lists-fine l) (bytes : List ℕ) (w : Opened l byte
     is-shown : (len : ℕ) → Bar l id len → len ≤ 64 → bar-sheet bytes id ≡ ok (sheet id len (given l .terms)) → Outcome
 
   sheet-shown : (len : ℕ) → Bar l id len → len ≤ 64 → bar-sheet bytes id ≡ ok (sheet id len (given l .terms))
-  sheet-shown len b short = computed bytes id (w .opens) (length-there (bar-known l fine id len b)) short (w .decoded)
+  sheet-shown len b short = computed bytes id (w .opens) (bar-there len b) short (w .decoded)
 
   long-refused : (len : ℕ) → Bar l id len → 64 < len → bar-sheet bytes id ≡ refuse bar-too-long
-  long-refused len b far = refuses-exactly bytes id bar-too-long .1 (too-long (w .opens) (length-there (bar-known l fine id len b)) far)
+  long-refused len b far = refuses-exactly bytes id bar-too-long .1 (too-long (w .opens) (bar-there len b) far)
 
   outcome : Outcome
-  outcome = by-length (length-of (given l .documents) id) refl
+  outcome = by-length (length-of (w .segment .documents) id) refl
     where
-      by-length : (o : Option ℕ) → length-of (given l .documents) id ≡ o → Outcome
+      by-length : (o : Option ℕ) → length-of (w .segment .documents) id ≡ o → Outcome
       by-length none e =
+          let no-bar = none-gives bytes (w .opens) id e in
           is-unknown
-          (λ len b. let z : _≡_ {A = ℕ} 0 1 = cc (e, bar-known l fine id len b) in omega arith)
-          (refuses-exactly bytes id unknown-bar .1 (unknown (w .opens) (length-there e)))
+          (λ len b. no-bar len (bar-there len b))
+          (refuses-exactly bytes id unknown-bar .1 (unknown (w .opens) no-bar))
       by-length (some len) e =
-          let b = known-bar l fine id len e in
+          let b = bar-here len (bar-gives bytes (w .opens) id len e) in
           ⊎-elim
           (λ (far : 64 < len). is-long len b far (long-refused len b far))
           (λ (short : len ≤ 64). is-shown len b short (sheet-shown len b short))
@@ -128,7 +123,7 @@ module _ (l : Lists) (fine : Lists-fine l) (bytes : List ℕ) (w : Opened l byte
 
   -- the sheet shown is the bar on paper
   paper : (len : ℕ) → Bar l id len → len ≤ 64 → On-paper id len (given l .terms) (sheet id len (given l .terms))
-  paper len b short = shown-paper bytes id (w .opens) (length-there (bar-known l fine id len b)) short (w .decoded)
+  paper len b short = shown-paper bytes id (w .opens) (bar-there len b) short (w .decoded)
 
   shown-gives : (text : List ℕ) → bar-sheet bytes id ≡ ok text
       → (len : ℕ) × Bar l id len × (len ≤ 64) × On-paper id len (given l .terms) text

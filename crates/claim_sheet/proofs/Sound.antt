@@ -1,46 +1,23 @@
 -- A sound's line by its three parts: name, steps, number of hits.
 -- Assumes nothing.
-use mathlib.Core.Path.{_≡_, refl, sym, ap, _∙_}
+use mathlib.Core.Path.{_≡_, refl, sym, ap, _∙_, subst}
 use mathlib.Core.List.{List, [], _∷_, _++_, append-assoc}
-use mathlib.Core.Logic.{⊎-elim}
-use Prim.Native.Nat.{ℕ, suc, _+_, _-_, _/_, _%_, _≤_, _<_}
+use Prim.Native.Nat.{ℕ, _+_, _≤_, _<_}
 use native.Mathlib.Omega.{arith}
-use lib.ListN.{length, take, drop, getD, replicate, length-append, length-replicate, List·getD-append}
+use lib.ListN.{length, take, drop, getD, length-append, List·getD-append}
 use lib.Seq.{take-at, drop-at, getD-append-add}
-use borrow.Author.Tests.{lt-ltb, le-ltb}
 use Rattle.common.specs.Elements.{_∈_, Rising}
-use Rattle.common.proofs.Loops.{lt-or-ge}
 use Rattle.utf8.specs.Utf8.{text, decoded}
 use Rattle.utf8.proofs.Decoded.{text-append, scalars-append}
-use Rattle.calls.specs.Listing.{digits, fitted, name-column}
+use Rattle.calls.specs.Listing.{fitted, name-column}
 use Rattle.calls.specs.Sheet.{right-justified, mark, marks, sound-line}
 use Rattle.calls.proofs.Characters.{fitted-length, column-scalars}
-use Rattle.claim_sheet.specs.Words.{Line, at-step, times}
+use Rattle.show_columns.proofs.Columns.{hits-length}
+use Rattle.claim_sheet.specs.Words.{In-columns, Line, at-step, times}
 use Rattle.claim_sheet.proofs.Printing.{plain-marks, plain-justified, plain-scalars, plain-text}
 use Rattle.claim_sheet.proofs.Printing.{unbroken-plain, unbroken-append, unbroken-fitted}
+use Rattle.claim_sheet.proofs.Decimals.{in-width}
 use Rattle.claim_sheet.proofs.Marks.{marks-length, marks-at, marks-drawn}
-
--- ---- a number of at most two digits in 4 columns
-
-one-digit : (m n : ℕ) (rest : List ℕ) → n < 10 → length (digits (suc m) n rest) ≡ suc (length rest)
-unfolding digits
-one-digit m n rest h = rw (lt-ltb n 10 h)
-
-two-digits : (m n : ℕ) → n < 100 → length (digits (suc (suc m)) n []) ≤ 2
-unfolding digits
-two-digits m n h = ⊎-elim
-    (λ (k : n < 10). rw (lt-ltb n 10 k) (omega arith))
-    (λ (k : 10 ≤ n). rw (le-ltb n 10 k) (omega (arith, one-digit m (n / 10) ((48 + n % 10) ∷ []) (omega arith))))
-    (lt-or-ge n 10)
-
-four-columns : (n : ℕ) → n < 100 → length (right-justified 4 n) ≡ 4
-unfolding right-justified
-four-columns n h =
-    let ds = digits 20 n [] in
-    let blank : List ℕ = replicate (4 - length ds) 32 in
-    omega (arith, two-digits 18 n h, length-append blank ds, length-replicate {0} {A = ℕ} (4 - length ds) 32)
-
--- ---- a line by its three parts
 
 abbrev pub sound-characters : (len : ℕ) (name hits : List ℕ) → List ℕ
 sound-characters len name hits = fitted 12 (decoded name) ++ marks len hits 64 0 ++ right-justified 4 (length hits)
@@ -80,12 +57,17 @@ module _ (len : ℕ) (name hits : List ℕ) where
           scalars-append (front ++ steps) count
           (scalars-append front steps (column-scalars 12 name) (plain-scalars steps (plain-marks len hits 64 0)))
           (plain-scalars count (plain-justified 4 (length hits)));
-      wide = omega (arith, length-append (front ++ steps) count, front-steps, four-columns (length hits) (omega arith));
+      wide = omega (arith, length-append (front ++ steps) count, front-steps, hits-length (length hits) (omega arith));
       one-line =
           unbroken-append (front ++ steps) count
           (unbroken-append front steps (unbroken-fitted 12 (decoded name)) (unbroken-plain steps (plain-marks len hits 64 0)))
           (unbroken-plain count (plain-justified 4 (length hits)));
     }
+
+    pub has-number : In-columns 4 (length hits) (drop 76 (sound-characters len name hits))
+    has-number =
+        subst (In-columns 4 (length hits)) (sym (drop-at (front ++ steps) count 76 front-steps))
+        (in-width (length hits) (omega arith) 4 (hits-length (length hits) (omega arith)))
 
   pub step-at : (s : ℕ) → s < 64 → at-step (sound-characters len name hits) s ≡ mark len hits s
   step-at s h =
@@ -99,9 +81,6 @@ module _ (len : ℕ) (name hits : List ℕ) where
 
   pub has-name : take 12 (sound-characters len name hits) ≡ front
   has-name = ap (take 12) (append-assoc front steps count) ∙ take-at front (steps ++ count) 12 twelve
-
-  pub has-number : drop 76 (sound-characters len name hits) ≡ count
-  has-number = drop-at (front ++ steps) count 76 front-steps
 
   has-steps : take 64 (drop 12 (sound-characters len name hits)) ≡ steps
   has-steps =

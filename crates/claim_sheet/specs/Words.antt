@@ -1,6 +1,6 @@
 -- A bar on paper in the customer's words (document 02, wish 3), by the characters of its lines. Nothing here names how a sheet is computed,
--- but for numbers and names in their columns.
-use Prim.Native.Nat.{ℕ, _+_, _≤_, _<_}
+-- but for a name in its columns, which is the listing's.
+use Prim.Native.Nat.{ℕ, _+_, _/_, _%_, _≤_, _<_}
 use mathlib.Core.Path.{_≡_}
 use mathlib.Core.Bool.{cond}
 use mathlib.Core.List.{List, [], _∷_, _++_}
@@ -10,8 +10,7 @@ use lib.ListN.{length, take, drop, getD, replicate}
 use Rattle.common.specs.Elements.{_∈_, Rising}
 use Rattle.utf8.specs.Utf8.{Scalars, text, decoded}
 use Rattle.segment.specs.Records.{Posting, Term}
-use Rattle.calls.specs.Listing.{column, fitted}
-use Rattle.calls.specs.Sheet.{right-justified}
+use Rattle.calls.specs.Listing.{fitted}
 
 -- the bar has a hit of the sound on the step: a posting of the sound's list is the bar's and has the step
 pub record Hit (sound : Term) (id step : ℕ) : Type 0 where
@@ -27,6 +26,19 @@ pub record Hits (sound : Term) (id number : ℕ) : Type 0 where
   pub once : Rising steps
   pub counted : length steps ≡ number
 
+-- the decimal digits of a number: one below 10 has one; any other has those of a tenth of it, rounded down, then its last
+pub data Decimal : ℕ → List ℕ → Type 0 where
+  one : {n : ℕ} → n < 10 → Decimal n ((48 + n) ∷ [])
+  more : {n : ℕ} {front : List ℕ} → 10 ≤ n → Decimal (n / 10) front → Decimal n (front ++ (48 + n % 10) ∷ [])
+
+-- a number right-justified in so many columns: blanks, then its digits
+pub record In-columns (width n : ℕ) (columns : List ℕ) : Type 0 where
+  pub blanks : ℕ
+  pub digits : List ℕ
+  pub decimal : Decimal n digits
+  pub are : columns ≡ replicate blanks 32 ++ digits
+  pub wide : length columns ≡ width
+
 -- 80 characters, line feed not counted
 pub record Line (line : List ℕ) : Type 0 where
   pub characters : Scalars line
@@ -36,8 +48,8 @@ pub record Line (line : List ℕ) : Type 0 where
 -- the first line has id and length in 10 columns each, then blanks
 pub record First-line (id len : ℕ) (line : List ℕ) : Type 0 where
   pub is-line : Line line
-  pub has-id : take 10 line ≡ column id
-  pub has-length : take 10 (drop 10 line) ≡ column len
+  pub has-id : In-columns 10 id (take 10 line)
+  pub has-length : In-columns 10 len (take 10 (drop 10 line))
   pub blanks : drop 20 line ≡ replicate 60 32
 
 -- the character for a step: the 64 steps stand behind the name
@@ -60,9 +72,9 @@ pub record Sound-line (sound : Term) (id len : ℕ) (line : List ℕ) : Type 0 w
   pub inside : (s : ℕ) → Hit sound id s → s < len
   pub hits : ℕ
   pub are-hits : Hits sound id hits
-  -- as many as there are o on the line
+  -- as many as there are o on its 64 steps
   pub drawn : hits ≡ times 111 (take 64 (drop 12 line))
-  pub number : drop 76 line ≡ right-justified 4 hits
+  pub number : In-columns 4 hits (drop 76 line)
 
 -- one line for each sound of the bar, in directory order: the bar's sounds are those that have a hit in it
 pub data Sound-lines (id len : ℕ) : List Term → List (List ℕ) → Type 0 where
