@@ -1,7 +1,6 @@
 -- What decoding gives of every sound: its documents rise, the bar's positions rise and are below its length.
 -- Assumes nothing.
 use mathlib.Core.Path.{_≡_, sym, subst}
-use mathlib.Core.Bool.{Bool, true, false, cond}
 use mathlib.Core.List.{List, [], _∷_, map}
 use mathlib.Core.Option.{Option, none, some}
 use Prim.Native.Nat.{ℕ}
@@ -23,6 +22,7 @@ use Rattle.calls.proofs.Posted.{docs}
 use Rattle.calls.proofs.Below.{decoded-below}
 use Rattle.read_cursors.specs.Held.{Posting-at, posting-of, held-postings, Rises, All-full}
 use Rattle.read_cursors.proofs.Posting-reads.{all-postings-read}
+use Rattle.read_terms.proofs.In-document.{full-rises}
 use Rattle.claim_sheet.proofs.Hitting.{Fits}
 
 -- ---- a list that was decoded
@@ -35,24 +35,15 @@ docs-rise : (previous : Option ℕ) (ss : List Posting-at) → All-full previous
 docs-rise previous [] f = after-none previous
 docs-rise previous (s ∷ ss) (up, full, f) = after-cons previous (s .doc) (docs (map posting-of ss)) up (docs-rise (some (s .doc)) ss f)
 
-own-rise : (previous : Option ℕ) (ss : List Posting-at) (id : ℕ) → All-full previous ss → Rising (positions-of (map posting-of ss) id)
-unfolding positions-of
-own-rise previous [] id f = tt
-own-rise previous (s ∷ ss) id (up, full, f) = step (eqb (s .doc) id) (own-rise (some (s .doc)) ss id f)
-  where
-    step : (t : Bool) → Rising (positions-of (map posting-of ss) id)
-        → Rising (cond t (posting-of s .positions) (positions-of (map posting-of ss) id))
-    step true later = rises-after none (posting-of s .positions) (full .rise)
-    step false later = later
-
 decode-rises : (documents : List Document) (e : Entry) (id : ℕ) {ps : List Posting} → decode documents e ≡ ok ps
     → Rising (docs ps) × Rising (positions-of ps id)
 unfolding decode
 decode-rises documents e id d =
     let all = check-gives (eqb (crc32Of (e .list)) (e .checksum)) (checksum-mismatch term-postings) _ d .1 in
     let r = all-postings-read (e .df) documents (e .list) all in
+    let ss = held-postings (e .df) none (e .list) in
     subst (λ (ps : List Posting). Rising (docs ps) × Rising (positions-of ps id)) (r .is)
-    (docs-rise none (held-postings (e .df) none (e .list)) (r .full), own-rise none (held-postings (e .df) none (e .list)) id (r .full))
+    (docs-rise none ss (r .full), rises-after none (positions-of (map posting-of ss) id) (full-rises id none ss (r .full)))
 
 -- ---- every list of the directory
 
