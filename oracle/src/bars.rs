@@ -96,5 +96,6 @@ pub fn all(runner: &mut Runner) {
     for cut in 0..bytes.len() {
         let cut = &bytes[..cut];
         runner.ask_full(&Case::on(Call::Open, cut), &opened(cut));
+        runner.sheets.some(&opened(cut));
     }
 }

@@ -7,6 +7,7 @@ use crate::random::Random;
 use crate::reply::{Refusal, Reply};
 use crate::rust::{self, Answer, Opened, Refused, Stage};
 use crate::sample::Sample;
+use crate::sheet::Sheets;
 use crate::tally::Tally;
 use std::panic::{catch_unwind, AssertUnwindSafe};
 
@@ -33,11 +34,22 @@ pub struct Runner {
     /// Where the Rust's own answer is not what demand 3 or the lists handed in say.
     pub astray: Vec<String>,
     pub sample: Option<Sample>,
+    /// The sheets of bars in the same segments.
+    pub sheets: Sheets,
 }
 
 impl Runner {
-    pub fn new(sample: Option<Sample>) -> Self {
-        Runner { lent: Buffers::new(), tally: Tally::new(), differences: 0, smallest: None, ruled: 0, astray: Vec::new(), sample }
+    pub fn new(sample: Option<Sample>, seed: u64) -> Self {
+        Runner {
+            lent: Buffers::new(),
+            tally: Tally::new(),
+            differences: 0,
+            smallest: None,
+            ruled: 0,
+            astray: Vec::new(),
+            sample,
+            sheets: Sheets::new(seed),
+        }
     }
 
     /// Runs the library with buffers of these lengths; says what differs.

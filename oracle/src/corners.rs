@@ -11,6 +11,9 @@ type Numbers = (u32, u32, u64);
 fn expect(runner: &mut Runner, case: &Case, numbers: Option<Numbers>, what: &str) {
     let opened = opened(case.segment);
     runner.ask_full(case, &opened);
+    if case.call != Call::Write {
+        runner.sheets.some(&opened);
+    }
     let told = found(case, &opened).err().map(|(_, Refusal { kind, which, index })| (kind, which, index));
     if told != numbers {
         runner.stray(format!("{what}: {told:?} instead of {numbers:?}"));

@@ -3,6 +3,7 @@
 use crate::case::{Call, Case, ENDS, IDS, LENGTHS, POSITIONS, POSITION_COUNTS, POSTING_COUNTS, POSTING_IDS};
 use crate::compare::{opened, Runner};
 use crate::given::{Flat, Given, Posting, Term};
+use crate::sheet::Paper;
 
 const LIMIT: usize = 16_777_216;
 
@@ -26,6 +27,10 @@ fn at_the_limit(runner: &mut Runner) {
         let opened = opened(&answer.bytes);
         runner.ask_full(&Case::on(Call::Open, &answer.bytes), &opened);
         runner.ask_full(&Case::on(Call::DocumentLengths, &answer.bytes), &opened);
+        let paper = Paper::new(&opened);
+        for id in [1, LIMIT as u32 - 1, LIMIT as u32] {
+            drop(runner.sheets.ask_full(&paper, id));
+        }
         for term in &given.terms {
             runner.ask_full(&Case::on(Call::Df, &answer.bytes).named(&term.name), &opened);
             runner.ask_full(&Case::on(Call::TermPostings, &answer.bytes).named(&term.name), &opened);

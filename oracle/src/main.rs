@@ -7,7 +7,7 @@
 //!   make, spoil, parts, damage, questions, rounds      random inputs
 //!   bars, worked, corners, patterns, strings, large    document 01's cases, whole small spaces, limits
 //!   show, shrink, reshape, sample                      a case as text, made smaller, and as a record of the replay list
-//!   midi                     bars from MIDI files, which the Rust does not have, beside a model from document 02's words
+//!   midi, sheet              bars from MIDI files and a bar on paper, which the Rust does not have, beside models from document 02's words
 
 mod bars;
 mod case;
@@ -31,6 +31,7 @@ mod rounds;
 mod rules;
 mod rust;
 mod sample;
+mod sheet;
 mod show;
 mod shrink;
 mod spoil;
@@ -59,6 +60,9 @@ struct Options {
     midi_files: u64,
     midi_sample: Option<String>,
     midi_case: Option<String>,
+    only_sheets: bool,
+    sheets: u64,
+    sheet_case: Option<String>,
 }
 
 fn options() -> Result<Options, String> {
@@ -74,6 +78,9 @@ fn options() -> Result<Options, String> {
         midi_files: 500_000,
         midi_sample: None,
         midi_case: None,
+        only_sheets: false,
+        sheets: 500_000,
+        sheet_case: None,
     };
     let mut words = std::env::args().skip(1);
     while let Some(word) = words.next() {
@@ -91,6 +98,9 @@ fn options() -> Result<Options, String> {
             "--midi-files" => options.midi_files = number(value()?)?,
             "--midi-sample" => options.midi_sample = Some(value()?),
             "--midi-case" => options.midi_case = Some(value()?),
+            "--only-sheets" => options.only_sheets = true,
+            "--sheets" => options.sheets = number(value()?)?,
+            "--sheet-case" => options.sheet_case = Some(value()?),
             _ => return Err(format!("unknown option {word}")),
         }
     }
@@ -106,7 +116,7 @@ fn one_case(line: &str) -> ExitCode {
     let case = kept.case();
     let found = found(&case, &opened(case.segment));
     println!("the oracle: {:x?}", rust::in_room(&case, &found, kept.room));
-    match Runner::new(None).differs(&case, &found, kept.room) {
+    match Runner::new(None, 1).differs(&case, &found, kept.room) {
         None => {
             println!("no difference");
             ExitCode::SUCCESS
@@ -161,26 +171,38 @@ fn conclude(runner: &mut Runner) {
 }
 
 fn compared(options: &Options) -> std::io::Result<ExitCode> {
-    let mut runner = Runner::new(options.sample.is_some().then(Sample::new));
-    if !options.only_midi {
+    let mut runner = Runner::new(options.sample.is_some().then(Sample::new), options.seed);
+    let all = !options.only_midi && !options.only_sheets;
+    if all {
         beside_the_rust(&mut runner, options);
     }
     if let (Some(file), Some(sample)) = (&options.sample, runner.sample.take()) {
         sample.write(file)?;
     }
     let mut midi = Midi::new(options.midi_sample.is_some().then(midi::Sample::new));
-    midi::all(&mut midi, &mut runner, &options.home, options.seed, options.midi_files, options.whole);
+    if all || options.only_midi {
+        midi::all(&mut midi, &mut runner, &options.home, options.seed, options.midi_files, options.whole);
+    }
+    if all || options.only_sheets {
+        sheet::all(&mut runner.sheets, options.seed, options.sheets, options.whole);
+    }
     if let (Some(file), Some(sample)) = (&options.midi_sample, midi.sample.take()) {
         sample.write(file)?;
     }
-    if !options.only_midi {
+    if all {
         runner.tally.print();
         println!("answers held against demand 3's rules over the lists handed in: {}", runner.ruled);
     }
-    midi.tally.print();
+    if all || options.only_midi {
+        midi.tally.print();
+    }
+    if all || options.only_sheets {
+        runner.sheets.tally.print();
+    }
     conclude(&mut runner);
     midi::conclude(&mut midi);
-    Ok(if runner.differences + midi.differences == 0 { ExitCode::SUCCESS } else { ExitCode::FAILURE })
+    sheet::conclude(&mut runner.sheets);
+    Ok(if runner.differences + midi.differences + runner.sheets.differences == 0 { ExitCode::SUCCESS } else { ExitCode::FAILURE })
 }
 
 fn main() -> ExitCode {
@@ -200,6 +222,9 @@ fn main() -> ExitCode {
     }
     if let Some(line) = &options.midi_case {
         return midi::one_case(line);
+    }
+    if let Some(line) = &options.sheet_case {
+        return sheet::one_case(line);
     }
     compared(&options).unwrap_or_else(|error| {
         eprintln!("a replay list could not be written: {error}");

@@ -65,7 +65,7 @@ fn documents(random: &mut Random, medium: bool) -> Vec<(u32, u32)> {
     ids(random, count).into_iter().map(|id| (id, length(random, small))).collect()
 }
 
-fn ids(random: &mut Random, count: usize) -> Vec<u32> {
+pub fn ids(random: &mut Random, count: usize) -> Vec<u32> {
     let style = random.below(4);
     let mut ids = Vec::with_capacity(count);
     let mut id = match style {

@@ -77,7 +77,9 @@ fn one(runner: &mut Runner, documents: &[(u32, u32)], sets: &[[u32; 2]], questio
     let Some(answer) = runner.ask_full(&flat.case(), &nothing) else {
         return runner.stray(format!("lists that fit are refused: {given:?}"));
     };
-    ask_all(runner, &given, &opened(&answer.bytes), questions);
+    let segment = opened(&answer.bytes);
+    ask_all(runner, &given, &segment, questions);
+    runner.sheets.some_of(&segment, &given, 2);
 }
 
 /// Lengths up to 4 in one document; in two documents up to 4 if the whole space is asked for, else up to 3.

@@ -37,6 +37,7 @@ pub fn round(runner: &mut Runner, random: &mut Random) {
         runner.stray(format!("what is given back differs: {given:?}"));
     }
     questions::all(runner, random, &written, &Pool::of(&given, positions <= 1000));
+    runner.sheets.some_of(&written, &given, 3);
     for term in &given.terms {
         let case = Case::on(Call::TermPostings, &answer.bytes).named(&term.name);
         runner.ask(random, &case, &written);
@@ -47,6 +48,8 @@ pub fn round(runner: &mut Runner, random: &mut Random) {
     }
     for _ in 0..3 {
         let bytes = damaged(random, &answer.bytes);
-        questions::all(runner, random, &opened(&bytes), &Pool::of(&given, false));
+        let segment = opened(&bytes);
+        questions::all(runner, random, &segment, &Pool::of(&given, false));
+        runner.sheets.some(&segment);
     }
 }

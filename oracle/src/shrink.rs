@@ -21,7 +21,7 @@ fn less(number: u64) -> Vec<u64> {
 }
 
 /// The writer's lists with one document, term, posting or position less, or one number smaller.
-fn smaller_given(given: &Given) -> Vec<Given> {
+pub fn smaller_given(given: &Given) -> Vec<Given> {
     let mut all = Vec::new();
     let mut try_with = |edit: &dyn Fn(&mut Given)| {
         let mut smaller = given.clone();
@@ -122,9 +122,9 @@ fn fewer_names(kept: &Kept) -> Vec<Kept> {
 }
 
 /// A segment with an entry or a byte less, or a smaller byte, its checksums made right again; and one that is merely shorter.
-fn smaller_segments(kept: &Kept) -> Vec<Kept> {
+pub fn smaller_segments(segment: &[u8]) -> Vec<Vec<u8>> {
     let mut segments = Vec::new();
-    if let Some(parts) = Parts::of(&kept.segment) {
+    if let Some(parts) = Parts::of(segment) {
         for at in 0..parts.entries.len() {
             let mut smaller = parts.clone();
             smaller.entries.remove(at);
@@ -157,13 +157,13 @@ fn smaller_segments(kept: &Kept) -> Vec<Kept> {
             }
         }
     }
-    for at in (0..kept.segment.len()).rev() {
-        segments.push(kept.segment[..at].to_vec());
-        let mut lower = kept.segment.clone();
+    for at in (0..segment.len()).rev() {
+        segments.push(segment[..at].to_vec());
+        let mut lower = segment.to_vec();
         lower[at] = 0;
         segments.push(lower);
     }
-    segments.into_iter().map(|segment| Kept { segment, ..kept.clone() }).collect()
+    segments
 }
 
 fn smaller_rest(kept: &Kept) -> Vec<Kept> {
@@ -204,7 +204,7 @@ pub fn shrunk(runner: &mut Runner, mut kept: Kept) -> Kept {
             all.extend(smaller_writes(&kept));
         } else {
             all.extend(fewer_names(&kept));
-            all.extend(smaller_segments(&kept));
+            all.extend(smaller_segments(&kept.segment).into_iter().map(|segment| Kept { segment, ..kept.clone() }));
         }
         all.extend(smaller_lists(&kept));
         for smaller in all {

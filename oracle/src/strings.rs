@@ -4,6 +4,7 @@ use crate::case::{Call, Case, ENDS};
 use crate::compare::{opened, Runner};
 use crate::damage::encoded;
 use crate::parts::{Entry, Parts};
+use crate::sheet::Paper;
 
 fn parts(documents: u32, metadata: &[u8]) -> Parts {
     Parts { documents, metadata: metadata.to_vec(), ..Parts::empty() }
@@ -13,9 +14,11 @@ fn as_metadata(runner: &mut Runner, documents: u32, metadata: &[u8]) {
     let bytes = parts(documents, metadata).bytes();
     let opened = opened(&bytes);
     runner.ask_full(&Case::on(Call::Open, &bytes), &opened);
+    let id = metadata.first().map_or(0, |b| u32::from(*b));
+    drop(runner.sheets.ask_full(&Paper::new(&opened), id));
     if opened.segment.is_ok() {
         runner.ask_full(&Case::on(Call::DocumentLengths, &bytes), &opened);
-        runner.ask_full(&Case::on(Call::DocumentLen, &bytes).numbered(metadata.first().map_or(0, |b| u32::from(*b))), &opened);
+        runner.ask_full(&Case::on(Call::DocumentLen, &bytes).numbered(id), &opened);
     }
 }
 
@@ -58,6 +61,7 @@ impl Lists {
             _ => {}
         }
         runner.ask_full(&case, &opened);
+        drop(runner.sheets.ask_full(&Paper::new(&opened), 0));
     }
 }
 

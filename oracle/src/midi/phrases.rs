@@ -2,9 +2,10 @@
 
 use super::answer::{sound, Answer};
 use super::model::{Hit, Hits, BAR_LENGTH};
-use crate::case::{Call, Case, ENDS};
+use crate::case::{Call, Case, Kept, Room, ENDS};
 use crate::compare::{opened, Runner};
 use crate::random::Random;
+use crate::reshape::given_of;
 use crate::rust::Opened;
 use std::collections::BTreeSet;
 
@@ -66,6 +67,9 @@ pub fn written_and_asked(runner: &mut Runner, random: &mut Random, answer: &Answ
         return Err("the writer refuses the lists".to_string());
     };
     let segment = opened(&written.bytes);
+    if let Some(given) = given_of(&Kept::new(&answer.flat.case(), Room::default())) {
+        runner.sheets.some_of(&segment, &given, 1);
+    }
     // a phrase is looked for among few hits only, which keeps long files quick
     let all: Vec<Hit> = answer.hits.iter().take(400).copied().collect();
     for _ in 0..count {
