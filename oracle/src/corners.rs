@@ -143,6 +143,7 @@ fn many_names(runner: &mut Runner) {
         return runner.stray("129 terms are refused".to_string());
     };
     let segment = opened(&answer.bytes);
+    runner.sheets.some_of(&segment, &given, 4);
     for count in [127, 128, 129] {
         for (call, window, ordered) in [
             (Call::Phrase, 0, false),

@@ -85,9 +85,11 @@ pub fn check(midi: &mut Midi, runner: &mut Runner, what: &str, file: &[u8], expe
         return midi.stray(format!("{what}: the writer refuses the lists"));
     };
     midi.tally.written += 1;
+    let segment = opened(&written.bytes);
+    runner.sheets.some(&segment);
     for (notes, bars) in &expected.phrases {
         midi.tally.phrases += 1;
-        let said = phrases::ask(runner, &opened(&written.bytes), &answer.hits, notes);
+        let said = phrases::ask(runner, &segment, &answer.hits, notes);
         if said.is_err() || meeting(&answer.hits, notes) != *bars {
             let names: String = notes.iter().map(|note| sound(*note)).collect();
             midi.stray(format!("{what}: phrase {names} is expected in {bars:?}; {said:?}"));
