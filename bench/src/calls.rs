@@ -33,6 +33,8 @@ pub enum Call {
     Phrase(Names),
     NearMatch(&'static str, &'static str, u32),
     Near(Names, u32, bool),
+    /// The names of the directory, which the original does not give out, and the bar.
+    BarSheet(Names, u32),
 }
 
 impl Call {
@@ -49,6 +51,7 @@ impl Call {
             Call::NearMatch(..) => "near_match".into(),
             Call::Near(names, _, true) => format!("near of {}, ordered", names.strs.len()),
             Call::Near(names, _, false) => format!("near of {}, unordered", names.strs.len()),
+            Call::BarSheet(..) => "bar_sheet".into(),
         }
     }
 }
@@ -71,14 +74,16 @@ pub fn all(id: u32) -> Vec<Call> {
         Call::Near(Names::new(&three), 4, true),
         Call::Near(Names::new(&three), 4, false),
         Call::NearMatch("snare", "clap", 4),
+        Call::BarSheet(Names::new(&crate::data::names()), id),
     ]
 }
 
-/// What a call answers: its numbers, and what it lists.
+/// What a call answers: its numbers, what it lists, and what it draws.
 #[derive(Debug, Default, PartialEq, Eq)]
 pub struct Answer {
     pub numbers: Vec<u64>,
     pub lists: Vec<Vec<u32>>,
+    pub text: Vec<u8>,
 }
 
 /// The library's answer; a refusal is a fault here.
@@ -86,6 +91,7 @@ pub fn answer(call: &Call, s: &[u8], b: &mut Buffers) -> Answer {
     let r = library::ask(call, s, b);
     assert_eq!(r.kind, 0, "{} is refused: {r:?}", call.name());
     let first = r.first as usize;
+    let mut text = Vec::new();
     let (numbers, lists) = match call {
         Call::Open => (vec![r.first], vec![]),
         Call::DocumentLen(_) => (vec![r.first, r.second], vec![]),
@@ -96,7 +102,11 @@ pub fn answer(call: &Call, s: &[u8], b: &mut Buffers) -> Answer {
             (vec![], vec![b.ids[..first].to_vec(), b.seconds[..first].to_vec(), positions])
         }
         Call::Positions(..) => (vec![], vec![b.positions[..first].to_vec()]),
+        Call::BarSheet(..) => {
+            text = b.sheet[..first].to_vec();
+            (vec![], vec![])
+        }
         _ => (vec![], vec![b.ids[..first].to_vec()]),
     };
-    Answer { numbers, lists }
+    Answer { numbers, lists, text }
 }

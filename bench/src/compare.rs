@@ -25,7 +25,7 @@ pub struct Size {
 }
 
 /// The times of one call. The library opens in every call: its search apart is the call less an open of the same round.
-fn time_call(call: &Call, bytes: &[u8], buffers: &mut Buffers, count: usize) -> Row {
+pub fn time_call(call: &Call, bytes: &[u8], buffers: &mut Buffers, count: usize) -> Row {
     let quick = fast::open(bytes);
     let slow = table::open(bytes);
     let right = calls::answer(call, bytes, buffers);

@@ -20,8 +20,11 @@ impl Lists {
     }
 }
 
+/// A sound, and how often it is hit.
+type Sound = (&'static str, u32);
+
 /// The sounds in byte order, each with how often it is hit among 121 hits.
-const SOUNDS: [(&str, u32); 24] = [
+const SOUNDS: [Sound; 24] = [
     ("agogo", 1),
     ("bongo", 2),
     ("cabasa", 1),
@@ -64,9 +67,9 @@ impl Random {
     }
 }
 
-fn sound(random: &mut Random) -> usize {
-    let mut left = random.below(SOUNDS.iter().map(|s| s.1).sum());
-    SOUNDS
+fn sound(random: &mut Random, sounds: &[Sound]) -> usize {
+    let mut left = random.below(sounds.iter().map(|s| s.1).sum());
+    sounds
         .iter()
         .position(|s| {
             let here = left < s.1;
@@ -76,26 +79,46 @@ fn sound(random: &mut Random) -> usize {
         .expect("a sound")
 }
 
-/// So many bars: ids rise by 1 to 3, a bar has 16, 32, 48 or 64 steps and 8 to 12 hits.
+/// So many bars: ids rise by 1 to 3, a bar has 16, 32, 48 or 64 steps and 8 to 12 hits, one in 32 has the fill.
 pub fn bars(count: usize) -> Lists {
+    made(count, &SOUNDS, 4, true)
+}
+
+/// Their names in directory order.
+pub fn names() -> Vec<&'static str> {
+    SOUNDS.iter().map(|sound| sound.0).collect()
+}
+
+/// 50 names of sounds that are hit equally often.
+pub fn kit_names() -> Vec<&'static str> {
+    (0..50).map(|i| &*format!("sound {i:02}").leak()).collect()
+}
+
+/// So many bars of 16 steps with 8 to 12 hits of these.
+pub fn kit(count: usize, names: &[&'static str]) -> Lists {
+    let sounds: Vec<Sound> = names.iter().map(|name| (*name, 1)).collect();
+    made(count, &sounds, 1, false)
+}
+
+fn made(count: usize, sounds: &[Sound], longest: u32, with_fill: bool) -> Lists {
     let mut random = Random(count as u64);
-    let mut terms: Vec<Lists> = (0..SOUNDS.len()).map(|_| Lists::default()).collect();
+    let mut terms: Vec<Lists> = (0..sounds.len()).map(|_| Lists::default()).collect();
     let mut lists = Lists::default();
     let mut id = 0;
     let mut hits: Vec<(usize, u32)> = Vec::new();
     for bar in 0..count {
         id += 1 + random.below(3);
-        let length = 16 * (1 + random.below(4));
+        let length = 16 * (1 + random.below(longest));
         lists.ids.push(id);
         lists.lengths.push(length);
         hits.clear();
         for _ in 0..8 + random.below(5) {
-            hits.push((sound(&mut random), random.below(length)));
+            hits.push((sound(&mut random, sounds), random.below(length)));
         }
-        if bar % 32 == 7 {
+        if with_fill && bar % 32 == 7 {
             let start = random.below(length - 7);
             for (i, name) in FILL.iter().enumerate() {
-                let term = SOUNDS.iter().position(|s| s.0 == *name).expect("a sound");
+                let term = sounds.iter().position(|s| s.0 == *name).expect("a sound");
                 hits.push((term, start + i as u32));
             }
         }
@@ -108,7 +131,7 @@ pub fn bars(count: usize) -> Lists {
             term.positions.extend(of_term.iter().map(|hit| hit.1));
         }
     }
-    for (term, sound) in terms.iter().zip(&SOUNDS) {
+    for (term, sound) in terms.iter().zip(sounds) {
         lists.text.extend_from_slice(sound.0.as_bytes());
         lists.ends.push(lists.text.len() as u32);
         lists.posting_counts.push(term.posting_ids.len() as u32);

@@ -71,6 +71,7 @@ extern "C" {
         out: *mut u8,
         l: usize,
     ) -> Reply;
+    fn pstp_bar_sheet(s: Bytes, n: usize, id: u32, out: *mut u8, l: usize) -> Reply;
     fn pstp_midi_bars(
         file: Bytes,
         n: usize,
@@ -93,16 +94,17 @@ extern "C" {
     ) -> Reply;
 }
 
-/// The lent answer buffers: ids, lengths or counts, positions.
+/// The lent answer buffers: ids, lengths or counts, positions, and a sheet of up to 50 sounds.
 pub struct Buffers {
     pub ids: Vec<u32>,
     pub seconds: Vec<u32>,
     pub positions: Vec<u32>,
+    pub sheet: Vec<u8>,
 }
 
 impl Buffers {
     pub fn new(documents: usize, positions: usize) -> Buffers {
-        Buffers { ids: vec![0; documents], seconds: vec![0; documents], positions: vec![0; positions] }
+        Buffers { ids: vec![0; documents], seconds: vec![0; documents], positions: vec![0; positions], sheet: vec![0; 51 * 81] }
     }
 }
 
@@ -112,6 +114,7 @@ pub fn ask(call: &Call, s: &[u8], b: &mut Buffers) -> Reply {
     let (ids, a) = (b.ids.as_mut_ptr(), b.ids.len());
     let (seconds, e) = (b.seconds.as_mut_ptr(), b.seconds.len());
     let (positions, f) = (b.positions.as_mut_ptr(), b.positions.len());
+    let (sheet, l) = (b.sheet.as_mut_ptr(), b.sheet.len());
     unsafe {
         match call {
             Call::Open => pstp_open(p, n),
@@ -123,6 +126,7 @@ pub fn ask(call: &Call, s: &[u8], b: &mut Buffers) -> Reply {
             Call::Positions(t, id) => pstp_positions(p, n, t.as_ptr(), t.len(), *id, positions, f),
             Call::Phrase(q) => pstp_phrase_match_strs(p, n, q.text.as_ptr(), q.text.len(), q.ends.as_ptr(), q.ends.len(), ids, a),
             Call::NearMatch(x, y, window) => pstp_near_match(p, n, x.as_ptr(), x.len(), y.as_ptr(), y.len(), *window, ids, a),
+            Call::BarSheet(_, id) => pstp_bar_sheet(p, n, *id, sheet, l),
             Call::Near(q, window, ordered) => pstp_near_match_terms_strs(
                 p,
                 n,

@@ -4,12 +4,14 @@
 //!   bench one CALL DOCUMENTS ROUNDS    one call on both sides
 //!   bench limits                       the lists at their limits
 //!   bench midi                         bars from MIDI files
+//!   bench sheet                        a bar on paper
 //!   bench stack                        the stack of every call
-//! Read in this order: data, calls, library, originals, measure, compare, limits, plain, midi, stack, report, text.
+//! Read in this order: data, calls, library, drawn, originals, measure, compare, limits, plain, midi, sheet, stack, report, text.
 mod again;
 mod calls;
 mod compare;
 mod data;
+mod drawn;
 mod library;
 mod limits;
 mod measure;
@@ -17,6 +19,7 @@ mod midi;
 mod originals;
 mod plain;
 mod report;
+mod sheet;
 mod stack;
 mod text;
 
@@ -33,7 +36,7 @@ fn depths() -> Vec<(String, usize)> {
     bytes.truncate(length);
     let mut buffers = library::Buffers::new(1000, lists.positions.len());
     let mut all = Vec::new();
-    for call in calls::all(1) {
+    for call in calls::all(lists.ids[lists.ids.len() / 2]) {
         let depth = stack::depth(&mut || {
             black_box(library::ask(&call, &bytes, &mut buffers));
         });
@@ -77,6 +80,7 @@ fn main() {
     match &words[..] {
         [only] if only == "limits" => return at_limits(),
         [only] if only == "midi" => return report::midi(&midi::all(1 << 24, 11)),
+        [only] if only == "sheet" => return report::sheets(&sheet::all(&[1000, 10_000, 100_000], 15)),
         [only] if only == "stack" => return report::stack(&depths()),
         _ => {}
     }
@@ -90,6 +94,8 @@ fn main() {
     };
     let hostile = limits::hostile(if quick { 1 << 21 } else { 1 << 24 });
     let midi = if quick { midi::all(1 << 20, 5) } else { midi::all(1 << 24, 11) };
+
+    let sheets = sheet::all(&[1000, 10_000, 100_000], if quick { 5 } else { 15 });
 
     println!("## The data\n\n{}", text::DATA);
     report::data(&sizes);
@@ -111,6 +117,8 @@ fn main() {
     }
     println!("\n## Bars from MIDI files\n\n{}", text::MIDI);
     report::midi(&midi);
+    println!("\n## A bar on paper\n\n{}", text::SHEETS);
+    report::sheets(&sheets);
     println!("\n## Stack and code\n\n{}", text::STACK);
     report::stack(&depths());
     println!("\nThe library's machine code has {} bytes.", report::grouped(code));

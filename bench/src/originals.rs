@@ -6,6 +6,7 @@ macro_rules! original {
         pub mod $name {
             use crate::calls::{Answer, Call};
             use crate::data::Lists;
+            use crate::drawn;
             use std::hint::black_box;
             use $from::positional::raw::{write_positional_segment, RawPositionalSegment};
             use $from::positional::{PositionalPosting, PositionalTermPostings};
@@ -31,6 +32,7 @@ macro_rules! original {
                     Call::Near(q, w, ordered) => {
                         drop(black_box(s.near_match_terms_strs(&q.strs, *w, *ordered).expect("decodes")))
                     }
+                    Call::BarSheet(names, id) => drop(black_box(sheet(s, &names.strs, *id))),
                 }
             }
 
@@ -58,8 +60,22 @@ macro_rules! original {
                     Call::Phrase(q) => a.lists.push(s.phrase_match_strs(&q.strs).expect("decodes")),
                     Call::NearMatch(x, y, w) => a.lists.push(s.near_match(x, y, *w).expect("decodes")),
                     Call::Near(q, w, ordered) => a.lists.push(s.near_match_terms_strs(&q.strs, *w, *ordered).expect("decodes")),
+                    Call::BarSheet(names, id) => a.text = sheet(s, &names.strs, *id),
                 }
                 a
+            }
+
+            /// What a program without `bar_sheet` does: each list decoded by the original, and the bar's lines drawn.
+            fn sheet(s: &Segment<'_>, names: &[&str], id: u32) -> Vec<u8> {
+                let length = s.document_len(id).expect("a bar");
+                let mut sheet = drawn::first_line(id, length);
+                for name in names {
+                    let hits = s.positions(name, id).expect("decodes");
+                    if !hits.is_empty() {
+                        drawn::line(&mut sheet, name, length, &hits);
+                    }
+                }
+                sheet
             }
 
             /// What the original's writer takes, over the same lists.

@@ -2,6 +2,7 @@
 use crate::compare::{Row, Size};
 use crate::limits::{Hostile, Limit};
 use crate::midi::Midi;
+use crate::sheet::Sheet;
 
 /// 1234567 as 1,234,567.
 pub fn grouped(n: usize) -> String {
@@ -132,6 +133,28 @@ pub fn midi(all: &[Midi]) {
         let speed = |time: f64| format!("{:.0}", m.bytes as f64 / time * 1e3);
         let counts = [m.bytes, m.postings, m.positions].map(grouped);
         line([m.name.into()].into_iter().chain(counts).chain([ratio(ours, plain), speed(ours), speed(plain)]));
+    }
+}
+
+/// Opened each time, and nanoseconds a document of both; then apart from opening.
+pub fn sheets(all: &[Sheet]) {
+    let names = [
+        "bytes of segment",
+        "lines",
+        "of the Rust",
+        "with a table",
+        "ns a document",
+        "Rust: ns",
+        "apart: of the Rust",
+        "with a table",
+    ];
+    head("Documents", names.map(String::from));
+    for s in all {
+        let ([ours, quick, slow], [own, fast, table]) = (s.row.whole, s.row.apart);
+        let each = |time: f64| format!("{:.1}", time / s.documents as f64);
+        let whole = [ratio(ours, quick), ratio(ours, slow), each(ours), each(quick)];
+        let counts = [s.documents, s.bytes, s.lines].map(grouped);
+        line(counts.into_iter().chain(whole).chain([ratio(own, fast), ratio(own, table)]));
     }
 }
 
