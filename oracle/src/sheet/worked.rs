@@ -124,5 +124,8 @@ pub fn all(sheets: &mut Sheets) {
     expect(sheets, &full, 0, Some(80), Err((13, 1, 81)));
     expect(sheets, &full, 5, None, Err((17, 0, 0)));
     expect(sheets, &full, 5, Some(0), Err((17, 0, 0)));
+    // before the long bar, and behind it
+    expect(sheets, &full, 4, None, Err((16, 0, 0)));
+    expect(sheets, &full, 6, None, Err((16, 0, 0)));
     expect(sheets, &written(&signs()), 12, None, Ok(SIGNS));
 }
