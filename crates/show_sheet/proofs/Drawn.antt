@@ -35,7 +35,7 @@ use Rattle.calls.specs.Replies.{count-of, filled}
 use Rattle.show_columns.proofs.Columns.{column-length}
 use Rattle.show_sheet.specs.declared.bar.Bar.{Bar}
 use Rattle.show_sheet.specs.declared.bar.BarFound.the-variants as found
-use Rattle.show_sheet.specs.Steps.{documents-in, paper-length, bar-found, On-paper, entry-in, line-in, lines-in, text-in, Room-for}
+use Rattle.show_sheet.specs.Steps.{documents-in, paper-length, bar-found, Drawable, entry-in, line-in, lines-in, text-in, Room-for}
 use Rattle.show_sheet.specs.Steps.{into, sheet-in, Sheet-drawn}
 use Rattle.show_sheet.specs.Promise.{Sheet-answered}
 use Rattle.show_sheet.proofs.Entries.{measured-most}
@@ -54,8 +54,8 @@ pub heading-stored : (id len : ℕ) {out o₁ o₂ o₃ o₄ : List ℕ} {n₁ n
 unfolding heading
 heading-stored id len a b c d = stored-append (stored-append (stored-append a b) c) d
 
-pub on-paper-wide : (bytes : List ℕ) (l : Layout) (bar : Bar) → On-paper bytes l bar → length (heading (bar .id .0) (bar .len)) ≡ 81
-on-paper-wide bytes l bar p =
+pub drawable-wide : (bytes : List ℕ) (l : Layout) (bar : Bar) → Drawable bytes l bar → length (heading (bar .id .0) (bar .len)) ≡ 81
+drawable-wide bytes l bar p =
     let small = known-small 0 (documents-in bytes l) (held-rise (l .documents) none (cut bytes l .metadata)) (bar .id .0) (p .known) in
     heading-length (bar .id .0) (bar .len) (omega arith) (omega (arith, p .short))
 
@@ -71,7 +71,7 @@ behind-most n m (ok x) (ok y) f g k e =
 behind-most n m (ok x) (refuse y) f g k e = let z : _≡_ {A = ℕ} 0 1 = cc in absurd (omega arith)
 behind-most n m (refuse x) b f g k e = let z : _≡_ {A = ℕ} 0 1 = cc in absurd (omega arith)
 
-lines-most : (bytes : List ℕ) (l : Layout) (bar : Bar) → On-paper bytes l bar → (n i : ℕ) → Most (117 * n) (lines-in bytes l bar n i)
+lines-most : (bytes : List ℕ) (l : Layout) (bar : Bar) → Drawable bytes l bar → (n i : ℕ) → Most (117 * n) (lines-in bytes l bar n i)
 unfolding lines-in
 lines-most bytes l bar p zero i k e = let none-there : k ≡ 0 = cc in omega arith
 lines-most bytes l bar p (suc n) i k e =
@@ -79,7 +79,7 @@ lines-most bytes l bar p (suc n) i k e =
     (λ j f. measured-most bytes l bar i p f) (lines-most bytes l bar p n (suc i)) k e in
     omega arith
 
-pub sheet-most : (bytes : List ℕ) (l : Layout) (bar : Bar) → On-paper bytes l bar → {k : ℕ}
+pub sheet-most : (bytes : List ℕ) (l : Layout) (bar : Bar) → Drawable bytes l bar → {k : ℕ}
     → Count k ≡ count-of (lines-in bytes l bar (l .terms) 0) → k ≤ 117 * l .terms
 sheet-most bytes l bar p {k} e = lines-most bytes l bar p (l .terms) 0 k e
 
@@ -222,8 +222,8 @@ module _ (bytes : List ℕ) (id : ℕ) (out : List ℕ) where
         ok (sheet id len ts)) (bar-refused id tested e))
 
     module _ {bar : Bar} (e : found.Bar bar ≡ bar-found id tested) where
-      pub on-paper : On-paper bytes l bar
-      on-paper =
+      pub drawable : Drawable bytes l bar
+      drawable =
           let (is, same) = bar-is id tested e in
           let (known, short) = paper-is (length-of (documents-in bytes l) id) is in
           record { opened = (opens .0, opens .2); known = rw same known; short = short }
@@ -243,9 +243,9 @@ module _ (bytes : List ℕ) (id : ℕ) (out : List ℕ) where
           ∙ ap (λ (i : ℕ). decode-all (documents-in bytes l) (opens .0 .entries) >>= λ ts. ok (sheet i (bar .len) ts)) (sym same)
           ∙ headed bar (decode-all (documents-in bytes l) (opens .0 .entries)) lines-are
 
-      pub sheet-on-paper : {r : Counted} {out′ : List ℕ} → Sheet-drawn bytes l bar out r out′ → Sheet-answered bytes id out r out′
+      pub sheet-drawable : {r : Counted} {out′ : List ℕ} → Sheet-drawn bytes l bar out r out′ → Sheet-answered bytes id out r out′
       unfolding sheet-into
-      sheet-on-paper d = record { reply = rw sheet-is (d .reply); left = rw sheet-is (d .left) }
+      sheet-drawable d = record { reply = rw sheet-is (d .reply); left = rw sheet-is (d .left) }
 
 -- the sheet lies in the buffer
 pub sheet-fits : {bytes : List ℕ} {id : ℕ} {out out′ : List ℕ} {r : Counted} {k : ℕ} → Sheet-answered bytes id out r out′ → r ≡ Count k

@@ -33,7 +33,7 @@ use Rattle.calls.specs.Replies.{count-of}
 use Rattle.calls.specs.Sheet.{sound-line, line-of}
 use Rattle.show_steps.proofs.Lines.{sound-length, sound-most}
 use Rattle.show_sheet.specs.declared.bar.Bar.{Bar}
-use Rattle.show_sheet.specs.Steps.{documents-in, On-paper, entry-in, line-in, text-in, Decoded}
+use Rattle.show_sheet.specs.Steps.{documents-in, Drawable, entry-in, line-in, text-in, Decoded}
 use Rattle.show_sheet.proofs.Hits.{sought-some}
 
 -- ---- with hits, and without
@@ -50,7 +50,7 @@ pub line-most : (len : ℕ) (name hits : List ℕ) → length hits < 10000 → l
 line-most len name [] h = omega arith
 line-most len name (x ∷ xs) h = sound-most len name (x ∷ xs) h
 
-module _ (bytes : List ℕ) (l : Layout) (bar : Bar) (i : ℕ) (paper : On-paper bytes l bar) where
+module _ (bytes : List ℕ) (l : Layout) (bar : Bar) (i : ℕ) (paper : Drawable bytes l bar) where
   abbrev documents : List Document
   documents = documents-in bytes l
 

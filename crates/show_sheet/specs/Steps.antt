@@ -36,7 +36,7 @@ bar-found id (ok len) = found.Bar (record { id = record { 0 = id }; len = len })
 bar-found id (refuse x) = found.Refused x
 
 -- a bar of the segment, short enough for the paper
-pub record On-paper (bytes : List ℕ) (l : Layout) (bar : Bar) : Type 0 where
+pub record Drawable (bytes : List ℕ) (l : Layout) (bar : Bar) : Type 0 where
   pub opened : Opened-as bytes l
   pub known : length-of (documents-in bytes l) (bar .id .0) ≡ some (bar .len)
   pub short : bar .len ≤ 64

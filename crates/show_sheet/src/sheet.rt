@@ -28,14 +28,20 @@ ghost use Rattle.common.specs.Stores.{Stored};
 ghost use Rattle.calls.specs.Sheet.{heading};
 ghost use Rattle.calls.specs.Replies.{count-of};
 ghost use Rattle.show_sheet.specs.Promise.{Sheet-answered};
-ghost use Rattle.show_sheet.specs.Steps.{documents-in, entry-in, On-paper, line-in, lines-in, text-in, Room-for, Sheet-drawn};
+ghost use Rattle.show_sheet.specs.Steps.{documents-in, entry-in, Drawable, line-in, lines-in, text-in, Room-for, Sheet-drawn};
 
 // How many characters of a name are on paper.
 const NAME_WIDTH: usize = 12;
 
+// How many bytes a sound's line has behind the name: 64 steps, 4 columns, the line feed.
+const BEHIND_NAME: usize = 69;
+
+// How many bytes the first line has.
+const HEADING_SIZE: usize = 81;
+
 // How many bytes an entry's line has, its whole list decoded: none where the bar has no hit of it.
 fn line_len(bytes: &[u8], at: Layout, bar: Bar, i: usize) -> Counted
-    requires { ⌜ On-paper (now bytes) at bar × (i < at .terms) ⌝ }
+    requires { ⌜ Drawable (now bytes) at bar × (i < at .terms) ⌝ }
     ensures { λ r. ⌜ r ≡ count-of (line-in (documents-in (was bytes) at) bar (entry-in (was bytes) at i)) ⌝ }
 {
     let list = entry_list(bytes, at, i);
@@ -50,7 +56,7 @@ fn line_len(bytes: &[u8], at: Layout, bar: Bar, i: usize) -> Counted
             let all = &bytes[names..metadata];
             let start = name.start;
             let end = name.end;
-            Counted::Count(name_len(&all[start..end], NAME_WIDTH) + 69)
+            Counted::Count(name_len(&all[start..end], NAME_WIDTH) + BEHIND_NAME)
         }
         Tally::Refused(x) => Counted::Refused(x),
     }
@@ -58,7 +64,7 @@ fn line_len(bytes: &[u8], at: Layout, bar: Bar, i: usize) -> Counted
 
 // How many bytes the sounds' lines have, every list of the directory decoded in its order; or the first refusal.
 fn lines_len(bytes: &[u8], at: Layout, bar: Bar) -> Counted
-    requires { ⌜ On-paper (now bytes) at bar ⌝ }
+    requires { ⌜ Drawable (now bytes) at bar ⌝ }
     ensures { λ r. ⌜ r ≡ count-of (lines-in (was bytes) at bar (at .terms) 0) ⌝ }
 {
     let terms = long(at.terms);
@@ -92,7 +98,7 @@ fn put_heading(bar: Bar, out: &mut [u8]) -> usize
 
 // An entry's line, if the bar has a hit of it.
 fn put_line(bytes: &[u8], at: Layout, bar: Bar, i: usize, out: &mut [u8], next: usize) -> usize
-    requires { ⌜ On-paper (now bytes) at bar × (i < at .terms)
+    requires { ⌜ Drawable (now bytes) at bar × (i < at .terms)
         × Room-for (line-in (documents-in (now bytes) at) bar (entry-in (now bytes) at i)) (now out) next ⌝ }
     ensures { λ r. ⌜ Stored (text-in (line-in (documents-in (was bytes) at) bar (entry-in (was bytes) at i))) next (was out) r
         (left out) ⌝ }
@@ -119,7 +125,7 @@ fn put_line(bytes: &[u8], at: Layout, bar: Bar, i: usize, out: &mut [u8], next: 
 
 // The sounds' lines.
 fn put_lines(bytes: &[u8], at: Layout, bar: Bar, out: &mut [u8], from: usize) -> usize
-    requires { ⌜ On-paper (now bytes) at bar × Room-for (lines-in (now bytes) at bar (at .terms) 0) (now out) from ⌝ }
+    requires { ⌜ Drawable (now bytes) at bar × Room-for (lines-in (now bytes) at bar (at .terms) 0) (now out) from ⌝ }
     ensures { λ r. ⌜ Stored (text-in (lines-in (was bytes) at bar (at .terms) 0)) from (was out) r (left out) ⌝ }
 {
     let terms = long(at.terms);
@@ -135,7 +141,7 @@ fn put_lines(bytes: &[u8], at: Layout, bar: Bar, out: &mut [u8], from: usize) ->
 // The sheet of a bar that is on paper. It is measured before anything is stored: 13 comes after every list was decoded, has the whole
 // length, and leaves the buffer as it was.
 fn draw(bytes: &[u8], at: Layout, bar: Bar, out: &mut [u8]) -> Counted
-    requires { ⌜ On-paper (now bytes) at bar ⌝ }
+    requires { ⌜ Drawable (now bytes) at bar ⌝ }
     ensures { λ r. ⌜ Sheet-drawn (was bytes) at bar (was out) r (left out) ⌝ }
 {
     let lines = match lines_len(bytes, at, bar) {
@@ -144,7 +150,7 @@ fn draw(bytes: &[u8], at: Layout, bar: Bar, out: &mut [u8]) -> Counted
             return Counted::Refused(x);
         }
     };
-    let needed = 81 + lines;
+    let needed = HEADING_SIZE + lines;
     if out.len() < needed {
         return Counted::Refused(no_room(1, needed));
     }

@@ -3,7 +3,7 @@ use denote.Ref.{now}
 use borrow.Author.Needs.{needs}
 use Rattle.read_open.specs.declared.header.Opening.the-variants as opening
 use Rattle.read_open.specs.Opened.{Opens}
-use Rattle.show_sheet.proofs.Drawn.{sheet-shut, sheet-no-bar, on-paper, sheet-on-paper}
+use Rattle.show_sheet.proofs.Drawn.{sheet-shut, sheet-no-bar, drawable, sheet-drawable}
 use Rattle.show_sheet.proofs.sheet.bar_sheet.Statement.{statement}
 use Rattle.show_sheet.proofs.sheet.bar_sheet.Tie as tie
 
@@ -35,7 +35,7 @@ enum-known-bar c = search needs
 draw-requires : tie.Need-draw-requires
 draw-requires c κs =
     let d = c .before .before .before .before in
-    on-paper _ _ (now (c .before .before .before .before .before .before .before .before .before .before .before .args .out)) _ (opens
+    drawable _ _ (now (c .before .before .before .before .before .before .before .before .before .before .before .args .out)) _ (opens
     (d .before)) (sym (c .before .before .bar .given .1) ∙ d .find-bar .ensures)
 
 enum-known-x-2 : tie.Need-enum-known-x-2
@@ -47,7 +47,7 @@ same-length c = search needs
 returns-2 : tie.Need-returns-2
 returns-2 c =
     let d = c .before .before .before .before .before .before .before in
-    sheet-on-paper _ _ _ _ (opens (d .before)) (sym (c .before .before .before .before .before .bar .given .1) ∙ d .find-bar .ensures)
+    sheet-drawable _ _ _ _ (opens (d .before)) (sym (c .before .before .before .before .before .bar .given .1) ∙ d .find-bar .ensures)
     (c .before .before .draw .ensures)
 
 returns-3 : tie.Need-returns-3

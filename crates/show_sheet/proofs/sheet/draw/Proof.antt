@@ -5,7 +5,7 @@ use borrow.Author.Needs.{needs}
 use Rattle.segment.specs.declared.replies.Counted.the-variants as told
 use Rattle.calls.specs.Replies.{count-of}
 use Rattle.show_sheet.specs.Steps.{lines-in}
-use Rattle.show_sheet.proofs.Drawn.{on-paper-wide, sheet-most, drawn-refused, drawn-short, lines-fit, drawn-fits}
+use Rattle.show_sheet.proofs.Drawn.{drawable-wide, sheet-most, drawn-refused, drawn-short, lines-fit, drawn-fits}
 use Rattle.show_sheet.proofs.sheet.draw.Statement.{statement}
 use Rattle.show_sheet.proofs.sheet.draw.Tie as tie
 
@@ -39,7 +39,7 @@ returns-2 : tie.Need-returns-2
 returns-2 c =
     let k = c .before .before in
     let s = k .before .before .before .before .before .before in
-    rw (c .no-room .ensures) (drawn-short _ _ _ _ (on-paper-wide _ _ _ (s .pre)) (measured k) (c .before .if1 .taken))
+    rw (c .no-room .ensures) (drawn-short _ _ _ _ (drawable-wide _ _ _ (s .pre)) (measured k) (c .before .if1 .taken))
 
 put-heading-requires : tie.Need-put-heading-requires
 put-heading-requires c κs = search needs
@@ -49,7 +49,7 @@ put-lines-requires c κs =
     let i = c .before .before .before .before .before in
     let k = i .before in
     let s = k .before .before .before .before .before .before in
-    (s .pre, lines-fit _ _ _ _ (on-paper-wide _ _ _ (s .pre)) (measured k) (i .if1 .left) (c .before .before .before .put-heading .ensures))
+    (s .pre, lines-fit _ _ _ _ (drawable-wide _ _ _ (s .pre)) (measured k) (i .if1 .left) (c .before .before .before .put-heading .ensures))
 
 same-length : tie.Need-same-length
 same-length c = search needs
@@ -59,7 +59,7 @@ returns-3 c =
     let i = c .before .before .before .before .before .before .before .before in
     let k = i .before in
     let s = k .before .before .before .before .before .before in
-    drawn-fits _ _ _ _ (on-paper-wide _ _ _ (s .pre)) (measured k) (i .if1 .left) (c .before .before .before .before .before .before
+    drawn-fits _ _ _ _ (drawable-wide _ _ _ (s .pre)) (measured k) (i .if1 .left) (c .before .before .before .before .before .before
     .put-heading .ensures)
     (c .before .before .put-lines .ensures)
 
