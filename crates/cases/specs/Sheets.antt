@@ -203,9 +203,9 @@ behind-no-steps = refl
 -- bar 0 has no b, and b's list is refused, before 13 too; the buffer is unchanged. Fails: the bar's sounds alone decoded, 13, a's line
 -- drawn before b's list is decoded
 other-sound : (sheet-into other-fault 0 0 ≡ refused 6 14 0)
-    × (filled (λ text. text) (sheet-into other-fault 0 200) (replicate 200 0xAA) ≡ replicate 200 0xAA)
+    × Sheet-answered other-fault 0 (replicate 200 0xAA) (counted.Refused (record { kind = 6; which = 14; index = 0 })) (replicate 200 0xAA)
 unfolding sheet-lines
-other-sound = (refl, refl)
+other-sound = (refl, record { reply = refl; left = refl })
 
 -- two lists that do not decode: a's 7 5 0, then b's 6 11 0. Fails: the last's
 first-of-two : sheet-into two-faults 0 242 ≡ refused 7 5 0
