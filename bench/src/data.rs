@@ -100,6 +100,25 @@ pub fn kit(count: usize, names: &[&'static str]) -> Lists {
     made(count, &sounds, 1, false)
 }
 
+/// So many names, in byte order.
+pub fn many_names(sounds: usize) -> Vec<&'static str> {
+    (0..sounds).map(|i| &*format!("s{i:06}").leak()).collect()
+}
+
+/// So many bars of 16 steps, the first and the last with one hit of each of these.
+pub fn scattered(count: usize, names: &[&'static str]) -> Lists {
+    let mut lists = Lists { ids: (0..count as u32).collect(), lengths: vec![16; count], ..Lists::default() };
+    for (i, name) in names.iter().enumerate() {
+        lists.text.extend_from_slice(name.as_bytes());
+        lists.ends.push(lists.text.len() as u32);
+        lists.posting_counts.push(2);
+        lists.posting_ids.extend([0, count as u32 - 1]);
+        lists.position_counts.extend([1, 1]);
+        lists.positions.extend([i as u32 % 16; 2]);
+    }
+    lists
+}
+
 fn made(count: usize, sounds: &[Sound], longest: u32, with_fill: bool) -> Lists {
     let mut random = Random(count as u64);
     let mut terms: Vec<Lists> = (0..sounds.len()).map(|_| Lists::default()).collect();

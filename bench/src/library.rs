@@ -94,7 +94,7 @@ extern "C" {
     ) -> Reply;
 }
 
-/// The lent answer buffers: ids, lengths or counts, positions, and a sheet of up to 50 sounds.
+/// The lent answer buffers: ids, lengths or counts, positions, and a sheet of up to 5,000 sounds.
 pub struct Buffers {
     pub ids: Vec<u32>,
     pub seconds: Vec<u32>,
@@ -104,7 +104,7 @@ pub struct Buffers {
 
 impl Buffers {
     pub fn new(documents: usize, positions: usize) -> Buffers {
-        Buffers { ids: vec![0; documents], seconds: vec![0; documents], positions: vec![0; positions], sheet: vec![0; 51 * 81] }
+        Buffers { ids: vec![0; documents], seconds: vec![0; documents], positions: vec![0; positions], sheet: vec![0; 5001 * 81] }
     }
 }
 

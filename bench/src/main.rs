@@ -80,7 +80,10 @@ fn main() {
     match &words[..] {
         [only] if only == "limits" => return at_limits(),
         [only] if only == "midi" => return report::midi(&midi::all(1 << 24, 11)),
-        [only] if only == "sheet" => return report::sheets(&sheet::all(&[1000, 10_000, 100_000], 15)),
+        [only] if only == "sheet" => {
+            report::sheets(&sheet::all(&[1000, 10_000, 100_000], 15));
+            return report::sheets(&sheet::scattered(100_000, &[50, 500, 5000], 3));
+        }
         [only] if only == "stack" => return report::stack(&depths()),
         _ => {}
     }
@@ -96,6 +99,7 @@ fn main() {
     let midi = if quick { midi::all(1 << 20, 5) } else { midi::all(1 << 24, 11) };
 
     let sheets = sheet::all(&[1000, 10_000, 100_000], if quick { 5 } else { 15 });
+    let scattered = sheet::scattered(100_000, &[50, 500, 5000], if quick { 1 } else { 3 });
 
     println!("## The data\n\n{}", text::DATA);
     report::data(&sizes);
@@ -119,6 +123,8 @@ fn main() {
     report::midi(&midi);
     println!("\n## A bar on paper\n\n{}", text::SHEETS);
     report::sheets(&sheets);
+    println!("\n{}", text::SCATTERED);
+    report::sheets(&scattered);
     println!("\n## Stack and code\n\n{}", text::STACK);
     report::stack(&depths());
     println!("\nThe library's machine code has {} bytes.", report::grouped(code));

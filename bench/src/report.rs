@@ -139,6 +139,7 @@ pub fn midi(all: &[Midi]) {
 /// Opened each time, and nanoseconds a document of both; then apart from opening.
 pub fn sheets(all: &[Sheet]) {
     let names = [
+        "sounds",
         "bytes of segment",
         "lines",
         "of the Rust",
@@ -153,7 +154,7 @@ pub fn sheets(all: &[Sheet]) {
         let ([ours, quick, slow], [own, fast, table]) = (s.row.whole, s.row.apart);
         let each = |time: f64| format!("{:.1}", time / s.documents as f64);
         let whole = [ratio(ours, quick), ratio(ours, slow), each(ours), each(quick)];
-        let counts = [s.documents, s.bytes, s.lines].map(grouped);
+        let counts = [s.documents, s.sounds, s.bytes, s.lines].map(grouped);
         line(counts.into_iter().chain(whole).chain([ratio(own, fast), ratio(own, table)]));
     }
 }

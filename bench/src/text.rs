@@ -49,6 +49,11 @@ the names. Here every bar has 16 steps, and 8 to 12 hits of 50 sounds that are h
 of nanoseconds a document that stays level is linear.
 ";
 
+pub const SCATTERED: &str = "\
+Sounds that the first and the last bar alone have, in bars of 16 steps: the worst for `bar_sheet`. Each list's check walks the metadata up
+to the list's last bar (decision 70), so this time grows with sounds times bars; the Rust looks ids up in a table on the heap.
+";
+
 pub const STACK: &str = "\
 The library allocates nothing. What a call touches of the stack, measured on a painted one, over 1,000 documents, and over a MIDI file of
 65,536 bytes with hits of all notes:
