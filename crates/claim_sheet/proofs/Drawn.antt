@@ -45,7 +45,7 @@ module _ (id len : ℕ) (short : len ≤ 64) where
           inside = λ s x. below s (are s .1 x);
           hits = length hits;
           are-hits = are-hits id len t f;
-          drawn = as-many len (t .name) hits (f .rise) (λ s m. omega (arith, below s m));
+          as-many = as-many len (t .name) hits (f .rise) (λ s m. omega (arith, below s m));
           number = has-number len (t .name) hits few;
         }
 

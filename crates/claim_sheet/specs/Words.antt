@@ -73,7 +73,7 @@ pub record Sound-line (sound : Term) (id len : ℕ) (line : List ℕ) : Type 0 w
   pub hits : ℕ
   pub are-hits : Hits sound id hits
   -- as many as there are o on its 64 steps
-  pub drawn : hits ≡ times 111 (take 64 (drop 12 line))
+  pub as-many : hits ≡ times 111 (take 64 (drop 12 line))
   pub number : In-columns 4 hits (drop 76 line)
 
 -- one line for each sound of the bar, in directory order: the bar's sounds are those that have a hit in it
