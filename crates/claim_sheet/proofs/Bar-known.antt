@@ -6,7 +6,6 @@ use mathlib.Core.Option.{Option, none, some}
 use Prim.Native.Nat.{ℕ, suc, _^_, _<_}
 use native.Mathlib.Omega.{arith}
 use Rattle.common.specs.Elements.{_∈_, Rising}
-use Rattle.common.proofs.Elements.{each}
 use Rattle.segment.specs.Results.{ok}
 use Rattle.segment.specs.Records.{Document, Segment}
 use Rattle.segment.specs.Metadata.{document, length-of}
@@ -22,11 +21,6 @@ ids-rise low [] r = tt
 ids-rise low (d ∷ []) r = tt
 ids-rise low (d ∷ (e ∷ ds)) (a, b, c, r) = (omega (arith, r .0), ids-rise (suc (d .id)) (e ∷ ds) r)
 
-ids-small : (low : ℕ) (ds : List Document) → held.Rising low ds → (d : Document) → d ∈ ds → d .id < 2 ^ 32
-ids-small low [] r d m = absurd m
-ids-small low (e ∷ ds) (a, b, c, r) d m =
-    each (λ (x : Document). x .id < 2 ^ 32) e ds b (ids-small (suc (e .id)) ds r) d m
-
 module _ (bytes : List ℕ) {s : Segment} (opens : open-segment bytes ≡ ok s) (id : ℕ) where
   abbrev there : Option ℕ
   there = length-of (s .documents) id
@@ -35,9 +29,6 @@ module _ (bytes : List ℕ) {s : Segment} (opens : open-segment bytes ≡ ok s) 
   rise = segment-taken bytes opens .0
 
   module _ (len : ℕ) where
-    pub bar-small : Has-bar s id len → id < 2 ^ 32
-    bar-small b = ids-small 0 (s .documents) rise (document id len) b
-
     pub bar-gives : there ≡ some len → Has-bar s id len
     bar-gives e =
         let f = known-gives (s .documents) id len (ap known e) in
@@ -45,6 +36,9 @@ module _ (bytes : List ℕ) {s : Segment} (opens : open-segment bytes ≡ ok s) 
 
     pub bar-from : Has-bar s id len → there ≡ some len
     bar-from b = known-from (s .documents) (ids-rise 0 (s .documents) rise) (document id len) b
+
+    pub bar-small : Has-bar s id len → id < 2 ^ 32
+    bar-small b = held.known-small 0 (s .documents) rise id (bar-from b)
 
   pub none-gives : there ≡ none → (len : ℕ) → Has-bar s id len → ⊥
   none-gives e len b = let z : _≡_ {A = ℕ} 0 1 = cc (e, bar-from len b) in omega arith

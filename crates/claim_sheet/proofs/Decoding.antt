@@ -1,4 +1,4 @@
--- What decoding gives of every sound: its documents rise, the bar's positions rise and are below its length.
+-- What decoding gives of every sound: its documents rise, the bar's positions rise and are below its length, and no more than that.
 -- Assumes nothing.
 use mathlib.Core.Path.{_≡_, sym, subst}
 use mathlib.Core.List.{List, [], _∷_, map}
@@ -22,7 +22,7 @@ use Rattle.calls.proofs.Posted.{docs}
 use Rattle.calls.proofs.Below.{decoded-below}
 use Rattle.read_cursors.specs.Held.{Posting-at, posting-of, held-postings, Rises, All-full}
 use Rattle.read_cursors.proofs.Posting-reads.{all-postings-read}
-use Rattle.read_terms.proofs.In-document.{full-rises}
+use Rattle.read_terms.proofs.In-document.{full-rises, own-few}
 use Rattle.claim_sheet.proofs.Hitting.{Fits}
 
 -- ---- a list that was decoded
@@ -56,5 +56,10 @@ module _ (documents : List Document) (id len : ℕ) (known : length-of documents
       let (more, those, g) = bind-gives (decode-all documents es) _ f in
       let (r, own) = decode-rises documents e id is in
       each (Fits id len) (record { name = e .name; postings = ps }) more
-      (record { documents-rise = r; rise = own; below = decoded-below documents id len known e is })
+      (record {
+        documents-rise = r;
+        rise = own;
+        below = decoded-below documents id len known e is;
+        few = own-few documents id len known e is;
+      })
       (all-fit es those) t (subst (λ (ts : List Term). t ∈ ts) (sym (ok-same g)) m)

@@ -13,7 +13,7 @@ use Rattle.segment.proofs.Within.{below-gives}
 use Rattle.calls.specs.Sheet.{sound-lines, sheet}
 use Rattle.claim_sheet.specs.Words.{Sound-line, Sound-lines, none, silent, drawn, On-paper, in-bytes}
 use Rattle.claim_sheet.proofs.Marks.{mark-hit, mark-other, mark-past}
-use Rattle.claim_sheet.proofs.Hitting.{Fits, hits-of, hits-are, few-hits, are-hits}
+use Rattle.claim_sheet.proofs.Hitting.{Fits, hits-of, hits-are, are-hits}
 use Rattle.claim_sheet.proofs.First.{first-characters, heading-is, first-line}
 use Rattle.claim_sheet.proofs.Sound.{sound-characters, sound-line-is, is-line, step-at, has-name, has-number, as-many}
 
@@ -32,7 +32,7 @@ module _ (id len : ℕ) (short : len ≤ 64) where
         let are = hits-are id t (f .documents-rise) in
         let at = step-at len (t .name) hits in
         let below = below-gives len hits (f .below) in
-        let few : length hits ≤ 64 = omega (arith, few-hits id len t f) in
+        let few : length hits ≤ 64 = omega (arith, f .few) in
         record {
           is-line = is-line len (t .name) hits few;
           name = has-name len (t .name) hits;

@@ -18,7 +18,7 @@ use Rattle.show_columns.proofs.Columns.{hits-length}
 use Rattle.show_columns.proofs.Names.{name-most}
 use Rattle.claim_sheet.specs.Claims.{Always-enough}
 use Rattle.claim_sheet.proofs.Marks.{marks-length}
-use Rattle.claim_sheet.proofs.Hitting.{Fits, hits-of, few-hits}
+use Rattle.claim_sheet.proofs.Hitting.{Fits, hits-of}
 use Rattle.claim_sheet.proofs.Bar-known.{bar-small, bar-from}
 use Rattle.claim_sheet.proofs.Decoding.{all-fit}
 use Rattle.claim_sheet.proofs.First.{heading-length}
@@ -61,7 +61,7 @@ module _ (id len : ℕ) (short : len ≤ 64) where
   unfolding sound-lines
   lines-most [] fit = omega arith
   lines-most (t ∷ ts) fit =
-      let few : length (hits-of t id) ≤ 64 = omega (arith, few-hits id len t (fit t (inl refl))) in
+      let few : length (hits-of t id) ≤ 64 = omega (arith, fit t (inl refl) .few) in
       omega (
         arith,
         length-append (line-of len (t .name) (hits-of t id)) (sound-lines id len ts),

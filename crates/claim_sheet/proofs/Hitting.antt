@@ -1,16 +1,14 @@
--- Where a list's documents rise, the bar's positions are its hits; there are at most as many as the bar has steps.
+-- Where a list's documents rise, the bar's positions are its hits.
 -- Assumes nothing.
 use mathlib.Core.Path.{_≡_, refl, ap, _∙_, subst, sym}
 use mathlib.Core.Bool.{Bool, true, false, cond}
 use mathlib.Core.List.{List, [], _∷_}
 use mathlib.Core.Logic.{_↔_, inl, inr}
-use Prim.Native.Nat.{ℕ, suc, _+_, _≤_}
-use native.Mathlib.Omega.{arith}
+use Prim.Native.Nat.{ℕ, _≤_}
 use lib.Dec.{eqb}
 use lib.ListN.{length}
 use borrow.Author.Tests.{eqb-true}
 use Rattle.common.specs.Elements.{_∈_, Rising}
-use Rattle.common.proofs.Elements.{rising-tail, rising-above}
 use Rattle.segment.specs.Records.{Posting, Term}
 use Rattle.segment.proofs.Within.{All-below}
 use Rattle.calls.specs.Lookups.{positions-of}
@@ -20,11 +18,12 @@ use Rattle.claim_sheet.specs.Words.{Hit, Hits}
 abbrev pub hits-of : Term → ℕ → List ℕ
 hits-of t id = positions-of (t .postings) id
 
--- what is known of a decoded sound: documents rise, and the bar's positions rise below its length
+-- what is known of a decoded sound: documents rise, and the bar's positions rise below its length, so that they are no more
 pub record Fits (id len : ℕ) (t : Term) : Type 0 where
   pub documents-rise : Rising (docs (t .postings))
   pub rise : Rising (hits-of t id)
   pub below : All-below len (hits-of t id)
+  pub few : length (hits-of t id) ≤ len
 
 -- the posting that has a position
 posted : (ps : List Posting) (id s : ℕ) → s ∈ positions-of ps id → (p : Posting) × (p ∈ ps) × (p .doc ≡ id) × (s ∈ p .positions)
@@ -48,16 +47,5 @@ hits-are id t r s = (
       subst (λ (xs : List ℕ). s ∈ xs) (sym same) (h .on),
 )
 
--- numbers that rise from `low` on and stay below `len` are at most as many as there are between
-rising-few : (low len : ℕ) (xs : List ℕ) → ((x : ℕ) → x ∈ xs → low ≤ x) → low ≤ len → Rising xs → All-below len xs → low + length xs ≤ len
-rising-few low len [] from h r b = omega arith
-rising-few low len (x ∷ xs) from h r (b, bs) =
-    let ih = rising-few (suc x) len xs (rising-above x xs r) b (rising-tail x xs r) bs in
-    omega (arith, from x (inl refl))
-
-module _ (id len : ℕ) (t : Term) (f : Fits id len t) where
-  pub few-hits : length (hits-of t id) ≤ len
-  few-hits = omega (arith, rising-few 0 len (hits-of t id) (λ x m. omega arith) (omega arith) (f .rise) (f .below))
-
-  pub are-hits : Hits t id (length (hits-of t id))
-  are-hits = record { steps = hits-of t id; are = hits-are id t (f .documents-rise); once = f .rise; counted = refl }
+pub are-hits : (id len : ℕ) (t : Term) → Fits id len t → Hits t id (length (hits-of t id))
+are-hits id len t f = record { steps = hits-of t id; are = hits-are id t (f .documents-rise); once = f .rise; counted = refl }
