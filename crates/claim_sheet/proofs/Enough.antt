@@ -1,7 +1,7 @@
 -- How many bytes a sheet has at most: 81 for the first line, 117 for each term.
 -- Assumes nothing.
 use mathlib.Core.Path.{_≡_, refl, sym, ap, _∙_}
-use mathlib.Core.List.{List, [], _∷_, _++_}
+use mathlib.Core.List.{List, [], _∷_}
 use mathlib.Core.Logic.{inl, inr}
 use Prim.Native.Nat.{ℕ, _+_, _*_, _≤_, _<_}
 use native.Mathlib.Omega.{arith}
@@ -12,16 +12,13 @@ use Rattle.segment.specs.Records.{Document, Term, Entry, Segment}
 use Rattle.segment.specs.Postings.{decode}
 use Rattle.segment.specs.Contents.{decode-all}
 use Rattle.segment.proofs.Binds.{bind-gives, ok-same}
-use Rattle.calls.specs.Listing.{name-column}
-use Rattle.calls.specs.Sheet.{right-justified, marks, heading, sound-line, line-of, sound-lines, sheet}
-use Rattle.show_columns.proofs.Columns.{hits-length}
-use Rattle.show_columns.proofs.Names.{name-most}
+use Rattle.calls.specs.Sheet.{heading, line-of, sound-lines, sheet}
+use Rattle.show_sheet.proofs.Entries.{line-most}
+use Rattle.show_sheet.proofs.Drawn.{heading-length}
 use Rattle.claim_sheet.specs.Claims.{Always-enough}
-use Rattle.claim_sheet.proofs.Marks.{marks-length}
 use Rattle.claim_sheet.proofs.Hitting.{Fits, hits-of}
 use Rattle.claim_sheet.proofs.Bar-known.{bar-small, bar-from}
 use Rattle.claim_sheet.proofs.Decoding.{all-fit}
-use Rattle.claim_sheet.proofs.First.{heading-length}
 use Rattle.claim_sheet.proofs.Agreed.{computed, sheet-in-words}
 
 -- ---- as many sounds as terms
@@ -36,36 +33,16 @@ sounds-many documents (e ∷ es) d =
 
 -- ---- their lines
 
-line-most : (len : ℕ) (name hits : List ℕ) → length hits ≤ 64 → length (sound-line len name hits) ≤ 117
-unfolding sound-line
-line-most len name hits few =
-    let front = name-column 12 name in
-    let steps = marks len hits 64 0 in
-    let count = right-justified 4 (length hits) in
-    omega (
-      arith,
-      length-append (front ++ steps ++ count) (10 ∷ []),
-      length-append (front ++ steps) count,
-      length-append front steps,
-      name-most 12 name,
-      marks-length len hits 64 0,
-      hits-length (length hits) (omega arith),
-    )
-
-line-or-none : (len : ℕ) (name hits : List ℕ) → length hits ≤ 64 → length (line-of len name hits) ≤ 117
-line-or-none len name [] few = omega arith
-line-or-none len name (h ∷ hs) few = line-most len name (h ∷ hs) few
-
 module _ (id len : ℕ) (short : len ≤ 64) where
   lines-most : (ts : List Term) → ((t : Term) → t ∈ ts → Fits id len t) → length (sound-lines id len ts) ≤ 117 * length ts
   unfolding sound-lines
   lines-most [] fit = omega arith
   lines-most (t ∷ ts) fit =
-      let few : length (hits-of t id) ≤ 64 = omega (arith, fit t (inl refl) .few) in
+      let few : length (hits-of t id) < 10000 = omega (arith, fit t (inl refl) .few) in
       omega (
         arith,
         length-append (line-of len (t .name) (hits-of t id)) (sound-lines id len ts),
-        line-or-none len (t .name) (hits-of t id) few,
+        line-most len (t .name) (hits-of t id) few,
         lines-most ts (λ u m. fit u (inr m)),
       )
 

@@ -57,7 +57,3 @@ module _ (id len : ℕ) where
               (in-ten len short);
           blanks = drop-at (column id ++ column len) blanks 20 both;
         }
-
-    pub heading-length : length (heading id len) ≡ 81
-    unfolding heading
-    heading-length = omega (arith, length-append (first-characters id len) (10 ∷ []), first-line .is-line .wide)

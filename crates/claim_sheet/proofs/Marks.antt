@@ -9,6 +9,7 @@ use Prim.Native.Nat.{ℕ, zero, suc, _+_, _≤_, _<_}
 use native.Mathlib.Omega.{arith}
 use lib.Dec.{ltb, eqb}
 use lib.ListN.{length, getD}
+use lib.Seq.{getD-drop}
 use borrow.Author.Tests.{lt-ltb, le-ltb, ne-eqb}
 use Rattle.common.specs.Elements.{_∈_, Rising}
 use Rattle.common.specs.Members.{some-of}
@@ -17,21 +18,15 @@ use Rattle.common.proofs.Loops.{lt-or-ge}
 use Rattle.common.proofs.Membership.{has-gives, has-from}
 use Rattle.rules.specs.Rules.{has}
 use Rattle.calls.specs.Sheet.{mark, marks}
+use Rattle.show_steps.proofs.Marks.{marks-step}
 use Rattle.claim_sheet.specs.Words.{times}
 
 module _ (len : ℕ) (hits : List ℕ) where
-  pub marks-length : (many from : ℕ) → length (marks len hits many from) ≡ many
-  unfolding marks
-  marks-length zero from = refl
-  marks-length (suc n) from = let ih = marks-length n (suc from) in omega arith
-
-  pub marks-at : (many from i : ℕ) → i < many → getD (marks len hits many from) i 0 ≡ mark len hits (from + i)
-  unfolding marks
-  marks-at zero from i h = absurd (omega arith)
-  marks-at (suc n) from zero h = let e : from + 0 ≡ from = omega arith in rw e
-  marks-at (suc n) from (suc i) h =
-      let e : from + suc i ≡ suc from + i = omega arith in
-      rw e (marks-at n (suc from) i (omega arith))
+  pub marks-at : (many i : ℕ) → i < many → getD (marks len hits many 0) i 0 ≡ mark len hits i
+  marks-at many i h =
+      let all = marks len hits many 0 in
+      let place : i ≡ i + 0 = omega arith in
+      ap (λ (j : ℕ). getD all j 0) place ∙ sym (getD-drop i all 0 0) ∙ ap (λ (l : List ℕ). getD l 0 0) (marks-step len hits many i h)
 
   module _ (s : ℕ) where
     mark-gives : mark len hits s ≡ 111 → s ∈ hits

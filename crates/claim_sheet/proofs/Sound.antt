@@ -13,11 +13,12 @@ use Rattle.calls.specs.Listing.{fitted, name-column}
 use Rattle.calls.specs.Sheet.{right-justified, mark, marks, sound-line}
 use Rattle.calls.proofs.Characters.{fitted-length, column-scalars}
 use Rattle.show_columns.proofs.Columns.{hits-length}
+use Rattle.show_steps.proofs.Marks.{marks-length}
 use Rattle.claim_sheet.specs.Words.{In-columns, Line, at-step, times}
 use Rattle.claim_sheet.proofs.Printing.{plain-marks, plain-justified, plain-scalars, plain-text}
 use Rattle.claim_sheet.proofs.Printing.{unbroken-plain, unbroken-append, unbroken-fitted}
 use Rattle.claim_sheet.proofs.Decimals.{in-width}
-use Rattle.claim_sheet.proofs.Marks.{marks-length, marks-at, marks-drawn}
+use Rattle.claim_sheet.proofs.Marks.{marks-at, marks-drawn}
 
 abbrev pub sound-characters : (len : ℕ) (name hits : List ℕ) → List ℕ
 sound-characters len name hits = fitted 12 (decoded name) ++ marks len hits 64 0 ++ right-justified 4 (length hits)
@@ -72,12 +73,10 @@ module _ (len : ℕ) (name hits : List ℕ) where
   pub step-at : (s : ℕ) → s < 64 → at-step (sound-characters len name hits) s ≡ mark len hits s
   step-at s h =
       let place : 12 + s ≡ length front + s = omega (arith, twelve) in
-      let same : 0 + s ≡ s = omega arith in
       List·getD-append (front ++ steps) count 0 (12 + s) (omega (arith, front-steps))
       ∙ ap (λ (i : ℕ). getD (front ++ steps) i 0) place
       ∙ getD-append-add front steps s 0
-      ∙ marks-at len hits 64 0 s h
-      ∙ ap (mark len hits) same
+      ∙ marks-at len hits 64 s h
 
   pub has-name : take 12 (sound-characters len name hits) ≡ front
   has-name = ap (take 12) (append-assoc front steps count) ∙ take-at front (steps ++ count) 12 twelve
