@@ -1,7 +1,7 @@
 /* Positional segments: documents, terms and positions in one sequence of bytes, and the search over them.
  *
  * In a drum machine a document is a bar, a term a sound, a position a step. The calls are those of src/positional/raw.rs of
- * arclabs561/postings (see NOTICE), ported to Rattle and proved, and two more: pstp_midi_bars, which reads bars from a MIDI file, and
+ * arclabs561/postings (see NOTICE), ported to Rattle and proved, and beyond them pstp_midi_bars, which reads bars from a MIDI file, and
  * pstp_bar_sheet, which shows a bar in lines of text. docs/FORMAT.md describes the format, the order of the checks and the rules of the
  * search; docs/GLOSSARY.md explains the words. Link with libpstp.a (`rt staticlib pstp`, x86-64 Linux). C99 and C++.
  *

@@ -98,7 +98,7 @@ ten-hits = refl
 
 -- ---- which sounds, and in which order
 
--- no sounds: the first line. Fails: nothing
+-- no sounds: the first line. Fails: an empty sheet
 no-sounds : sheet 9 16 [] ≡ page ("         9        16                                                            " ∷ [])
 unfolding sheet-lines
 no-sounds = refl

@@ -77,7 +77,8 @@ below-few len previous (x ∷ xs) (r, rs) (b, bs) =
     let rest : length xs ≤ len - suc x = below-few len (some x) xs rs bs in
     omega (arith, rises-least previous x r)
 
-pub full-rises : (id : ℕ) (previous : Option ℕ) (ss : List Posting-at) → All-full previous ss → Rises none (positions-of (map posting-of ss) id)
+pub full-rises : (id : ℕ) (previous : Option ℕ) (ss : List Posting-at) → All-full previous ss
+    → Rises none (positions-of (map posting-of ss) id)
 unfolding positions-of
 full-rises id previous [] f = tt
 full-rises id previous (s ∷ ss) (r, f, fs) = by (eqb (s .doc) id) (full-rises id (some (s .doc)) ss fs)

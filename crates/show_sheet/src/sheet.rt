@@ -19,6 +19,8 @@ use show_columns::put::put_number;
 use show_columns::put::put_spaces;
 use show_listing::list::entry_name;
 use show_listing::list::put_end;
+use show_steps::line::BEHIND_NAME;
+use show_steps::line::NAME_WIDTH;
 use show_steps::line::put_sound;
 ghost use mathlib.Core.Path.{_≡_};
 ghost use Prim.Native.Nat.{_+_, _≤_, _<_};
@@ -29,12 +31,6 @@ ghost use Rattle.calls.specs.Sheet.{heading};
 ghost use Rattle.calls.specs.Replies.{count-of};
 ghost use Rattle.show_sheet.specs.Promise.{Sheet-answered};
 ghost use Rattle.show_sheet.specs.Steps.{documents-in, entry-in, Drawable, line-in, lines-in, text-in, Room-for, Sheet-drawn};
-
-// How many characters of a name are on paper.
-const NAME_WIDTH: usize = 12;
-
-// How many bytes a sound's line has behind the name: 64 steps, 4 columns, the line feed.
-const BEHIND_NAME: usize = 69;
 
 // How many bytes the first line has.
 const HEADING_SIZE: usize = 81;

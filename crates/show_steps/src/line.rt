@@ -46,8 +46,11 @@ fn put_steps(bytes: &[u8], hits: Positions, len: u32, out: &mut [u8], at: usize)
     at + 64
 }
 
-// How many characters of a name are shown.
-const NAME_WIDTH: usize = 12;
+// How many characters of a name are on paper.
+pub const NAME_WIDTH: usize = 12;
+
+// How many bytes the line has behind the name: 64 steps, 4 columns, the line feed.
+pub const BEHIND_NAME: usize = 69;
 
 // A sound's line: its name, its steps, how many hits, the line's end.
 pub fn put_sound(
