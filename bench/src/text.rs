@@ -14,7 +14,8 @@ where a call does little else.
 
 pub const APART: &str = "\
 The library's time is the call's less an open's, taken in the same round; the Rust's is that of the method on a segment that is open, and
-for `bar_sheet` of the plain drawing. Both check the lists' own checksums, decode them and search. (What the calls that are left out answer, the Rust keeps from its open.)
+for `bar_sheet` of the plain drawing. Both check the lists' own checksums, decode them and search. (What the calls that are left out
+answer, the Rust keeps from its open.)
 ";
 
 pub const GROWTH: &str = "\

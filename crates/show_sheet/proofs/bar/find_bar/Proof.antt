@@ -33,7 +33,8 @@ unknown-bar-requires-2 c κs = search needs
 returns-2 : tie.Need-returns-2
 returns-2 c =
     let s = c .before .before .before .before .before .before .before in
-    rw (c .unknown-bar2 .ensures) (no-bar _ _ _ _ _ (s .before .start .ensures) (s .seek .ensures) (λ h e. omega (arith, c .before .if2 .taken, e)))
+    rw (c .unknown-bar2 .ensures)
+    (no-bar _ _ _ _ _ (s .before .start .ensures) (s .seek .ensures) (λ h e. omega (arith, c .before .if2 .taken, e)))
 
 bar-too-long-requires : tie.Need-bar-too-long-requires
 bar-too-long-requires c κs = search needs
