@@ -19,7 +19,9 @@ use Rattle.segment.proofs.Binds.{bind-gives, ok-same}
 use Rattle.calls.specs.Given.{Lists, given}
 use Rattle.calls.specs.Acceptance.{Lists-fine}
 use Rattle.calls.specs.Sheet.{sheet, bar-sheet}
+use Rattle.calls.specs.Writing.{write}
 use Rattle.calls.proofs.Accepts.{accepted-gives}
+use Rattle.roundtrip.specs.Claims.{Typed}
 use Rattle.roundtrip.proofs.ReadsBack.{reads-back}
 use Rattle.claim_sheet.specs.Words.{On-paper}
 use Rattle.claim_sheet.specs.Claims.{Has-bar, unknown, too-long}
@@ -152,3 +154,9 @@ module _ (l : Lists) (fine : Lists-fine l) (bytes : List ℕ) (w : Opened l byte
 pub sheet-of-what-was-written : Sheet-of-what-was-written
 sheet-of-what-was-written l room bytes typed e id =
     shows l (accepted-gives l room e .lists) bytes (opened l bytes (reads-back l room bytes typed e .back)) id
+
+-- of each bar handed in of at most 64 steps, the sheet computed is the bar on paper
+pub paper-of-what-was-written : (l : Lists) (room : ℕ) (bytes : List ℕ) → Typed l → write l room ≡ ok bytes
+    → (id len : ℕ) → Bar l id len → len ≤ 64 → On-paper id len (given l .terms) (sheet id len (given l .terms))
+paper-of-what-was-written l room bytes typed e id len b short =
+    paper l (accepted-gives l room e .lists) bytes (opened l bytes (reads-back l room bytes typed e .back)) id len b short
