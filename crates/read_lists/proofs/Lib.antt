@@ -4,4 +4,6 @@ pub mod Heads
 pub mod Positions
 pub mod Taken
 pub mod Tallies
+pub mod Marks-held
+pub mod Nearer
 pub mod Running

@@ -35,7 +35,7 @@ use Rattle.read_cursors.proofs.Posting-reads.{positions-read, head-read, postin
 
 -- ---- documents that say the same of every later id
 
-bind-agree : {A B : Type 0} (m : Result A) (f g : A → Result B) → ((a : A) → m ≡ ok a → f a ≡ g a) → (m >>= f) ≡ (m >>= g)
+pub bind-agree : {A B : Type 0} (m : Result A) (f g : A → Result B) → ((a : A) → m ≡ ok a → f a ≡ g a) → (m >>= f) ≡ (m >>= g)
 bind-agree (ok a) f g h = h a refl
 bind-agree (refuse x) f g h = refl
 

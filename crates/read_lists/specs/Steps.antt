@@ -1,11 +1,11 @@
 -- What the code that checks documents and lists answers on the way, as the definitions of crate segment have it.
-use Prim.Native.Nat.{ℕ, _+_, _≤_}
+use Prim.Native.Nat.{ℕ, _+_, _≤_, _<_}
 use mathlib.Core.Path.{_≡_}
 use mathlib.Core.Bool.{cond}
 use mathlib.Core.List.{List, [], _∷_}
 use mathlib.Core.Option.{Option, none}
-use lib.Dec.{eqb}
-use lib.ListN.{length, drop}
+use lib.Dec.{eqb, ltb, leb}
+use lib.ListN.{length, drop, getD}
 use Rattle.read_cursors.specs.declared.documents.Documents.{Documents}
 use Rattle.read_lists.specs.declared.lists.PositionsStep.{PositionsStep}
 use Rattle.read_lists.specs.declared.lists.PositionsStep.the-variants as positions
@@ -14,9 +14,10 @@ use Rattle.read_lists.specs.declared.lists.HeadStep.the-variants as head
 use Rattle.read_lists.specs.declared.lists.Tally.{Tally}
 use Rattle.read_lists.specs.declared.lists.Tally.the-variants as tally
 use Rattle.segment.specs.Results.{Result, ok, refuse}
-use Rattle.segment.specs.Records.{Posting, Read}
+use Rattle.segment.specs.Records.{Document, Posting, Read}
 use Rattle.segment.specs.Metadata.{document, length-of}
 use Rattle.segment.specs.Postings.{Head, read-positions, read-head, total-positions}
+use Rattle.read_cursors.specs.Held.{value-at}
 use Rattle.read_cursors.specs.Steps.{documents-from}
 
 -- the bytes after what was read
@@ -70,3 +71,24 @@ positions-in doc (p ∷ ps) = cond (eqb (p .doc) doc) (length (p .positions)) 0 
 -- the number of one document's positions in a list that was decoded
 abbrev pub tallied-in : (doc : ℕ) → Result (List Posting) → Tally
 tallied-in doc r = tallied-by (positions-in doc) r
+
+-- ---- cursors spread over the metadata
+
+abbrev pub no-cursor : Documents
+no-cursor = record { at = 0; remaining = 0; id = record { 0 = 0 }; len = 0 }
+
+-- a cursor from which the metadata says of every document from its own id on what the documents ds say
+abbrev pub Mark : (meta : List ℕ) (ds : List Document) → Documents → Type 0
+Mark meta ds m = (id : ℕ) → m .id .0 ≤ id → length-of (documents-from meta m) id ≡ length-of ds id
+
+-- 128 of them
+pub record Marks (meta : List ℕ) (ds : List Document) (marks : List Documents) : Type 0 where
+  pub each : (k : ℕ) → k < 128 → Mark meta ds (getD marks k no-cursor)
+
+-- the value at an offset, if there is one
+pub record Peeked (list : List ℕ) (previous : Option ℕ) (at r : ℕ) : Type 0 where
+  pub same : (v : Read ℕ) → value-at previous (drop at list) ≡ ok v → r ≡ v .got
+
+-- the mark, where it is further on than the cursor at hand and not past the document
+abbrev pub nearer-of : (known mark : Documents) (doc : ℕ) → Documents
+nearer-of known mark doc = cond (ltb doc (mark .id .0)) known (cond (leb (mark .id .0) (known .id .0)) known mark)

@@ -1,5 +1,8 @@
 // Posting lists: checked in document 01's order. The known-document test walks the metadata alongside the postings: both rise, so no
 // posting costs a search.
+use crate::marks::nearer;
+use crate::marks::peek;
+use crate::marks::place_for;
 use leb128::varint::Decoded;
 use leb128::varint::Reader;
 use read_cursors::documents::Documents;
@@ -27,7 +30,7 @@ ghost use lib.ListN.{drop};
 ghost use Rattle.common.specs.Slices.{was};
 ghost use Rattle.segment.specs.Postings.{all-postings};
 ghost use Rattle.segment.specs.Steps.{earlier};
-ghost use Rattle.read_lists.specs.Steps.{Walked-positions, Walked-head, tallied, tallied-in};
+ghost use Rattle.read_lists.specs.Steps.{Walked-positions, Walked-head, Marks, tallied, tallied-in};
 ghost use Rattle.read_cursors.specs.Held.{held-documents};
 
 // The reader after positions that were checked.
@@ -185,7 +188,17 @@ fn count_in(posting: DocId, count: u32, doc: DocId) -> u32
 }
 
 // All postings of a list, then trailing bytes, as decode_postings_bytes; answers how many positions one document has in it.
-pub fn decode_postings_in(list: &[u8], df: u32, meta: &[u8], documents: u32, doc: DocId) -> Tally
+// The walk to a posting's document starts at the nearest mark, so that a short list does not walk the metadata from its first document.
+pub fn decode_postings_in(
+    list: &[u8],
+    df: u32,
+    meta: &[u8],
+    documents: u32,
+    doc: DocId,
+    marks: [Documents; 128],
+    ids: &[u32; 128],
+) -> Tally
+    requires { ⌜ Marks (now meta) (held-documents documents none (now meta)) marks ⌝ }
     ensures { λ r. ⌜ r ≡ tallied-in (doc .0) (all-postings df (held-documents documents none (was meta)) (was list)) ⌝ }
 {
     let mut known = Documents::start(meta, documents);
@@ -194,7 +207,10 @@ pub fn decode_postings_in(list: &[u8], df: u32, meta: &[u8], documents: u32, doc
     let mut total: usize = 0;
     let mut place: u32 = 0;
     while place < df {
-        match read_head(list, reader, place, previous, meta, known) {
+        let target = peek(list, reader, place == 0, previous.0);
+        let mark = marks[place_for(ids, known.id, target)];
+        let near = nearer(known, mark, target);
+        match read_head(list, reader, place, previous, meta, near) {
             HeadStep::Next(head) => {
                 let first = head.next;
                 known = head.documents;

@@ -1,5 +1,6 @@
 // A term found in an open segment, and its posting list decoded.
 use crc32::checksum::crc32;
+use read_cursors::documents::Documents;
 use read_lists::lists::Tally;
 use read_lists::lists::decode_postings_bytes;
 use read_lists::lists::decode_postings_in;
@@ -21,7 +22,7 @@ ghost use Rattle.common.specs.Slices.{was};
 ghost use Rattle.read_open.specs.Steps.{Sections-follow, cut};
 ghost use Rattle.read_cursors.specs.Held.{held-documents};
 ghost use Rattle.segment.specs.Postings.{decode};
-ghost use Rattle.read_lists.specs.Steps.{tallied, tallied-in};
+ghost use Rattle.read_lists.specs.Steps.{Marks, tallied, tallied-in};
 ghost use Rattle.read_terms.specs.Steps.{List-inside, Entry-list, Term-found, list-entry};
 ghost use Rattle.read_open.specs.Opened.{Opened-as};
 
@@ -99,8 +100,17 @@ pub fn decode_postings(bytes: &[u8], at: Layout, list: TermList) -> Tally
 }
 
 // The whole list decoded as decode_postings does: its checksum, then each posting; how many positions one document has in it.
-pub fn decode_postings_for(bytes: &[u8], at: Layout, list: TermList, doc: DocId) -> Tally
-    requires { ⌜ Sections-follow (now bytes) at × List-inside (now bytes) list ⌝ }
+// The marks are those of the segment's metadata.
+pub fn decode_postings_for(
+    bytes: &[u8],
+    at: Layout,
+    list: TermList,
+    doc: DocId,
+    marks: [Documents; 128],
+    ids: &[u32; 128],
+) -> Tally
+    requires { ⌜ Sections-follow (now bytes) at × List-inside (now bytes) list
+        × Marks (cut (now bytes) at .metadata) (held-documents (at .documents) none (cut (now bytes) at .metadata)) marks ⌝ }
     ensures { λ r. ⌜ r ≡ tallied-in (doc .0) (decode (held-documents (at .documents) none (cut (was bytes) at .metadata))
         (list-entry (was bytes) list)) ⌝ }
 {
@@ -117,5 +127,7 @@ pub fn decode_postings_for(bytes: &[u8], at: Layout, list: TermList, doc: DocId)
         &bytes[metadata..lists],
         at.documents,
         doc,
+        marks,
+        ids,
     )
 }
