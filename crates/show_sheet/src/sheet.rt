@@ -3,8 +3,11 @@ use crate::bar::Bar;
 use crate::bar::BarFound;
 use crate::bar::find_bar;
 use common::widths::long;
+use read_cursors::documents::Documents;
 use read_cursors::postings::Postings;
 use read_lists::lists::Tally;
+use read_lists::marks::mark_documents;
+use read_lists::marks::mark_ids;
 use read_open::header::Layout;
 use read_open::header::Opening;
 use read_open::open_segment::open_layout;
@@ -29,19 +32,28 @@ ghost use Rattle.common.specs.Slices.{was, left};
 ghost use Rattle.common.specs.Stores.{Stored};
 ghost use Rattle.calls.specs.Sheet.{heading};
 ghost use Rattle.calls.specs.Replies.{count-of};
+ghost use Rattle.read_lists.specs.Steps.{Marks};
+ghost use Rattle.read_open.specs.Steps.{cut};
 ghost use Rattle.show_sheet.specs.Promise.{Sheet-answered};
 ghost use Rattle.show_sheet.specs.Steps.{documents-in, entry-in, Drawable, line-in, lines-in, text-in, Room-for, Sheet-drawn};
 
 // How many bytes the first line has.
 const HEADING_SIZE: usize = 81;
 
-// How many bytes an entry's line has, its whole list decoded: none where the bar has no hit of it.
-fn line_len(bytes: &[u8], at: Layout, bar: Bar, i: usize) -> Counted
-    requires { ⌜ Drawable (now bytes) at bar × (i < at .terms) ⌝ }
+// How many bytes an entry's line has, its whole list decoded: none where the bar has no hit of it. The marks are those of the metadata.
+fn line_len(
+    bytes: &[u8],
+    at: Layout,
+    bar: Bar,
+    i: usize,
+    marks: [Documents; 128],
+    ids: &[u32; 128],
+) -> Counted
+    requires { ⌜ Drawable (now bytes) at bar × (i < at .terms) × Marks (cut (now bytes) at .metadata) (documents-in (now bytes) at) marks ⌝ }
     ensures { λ r. ⌜ r ≡ count-of (line-in (documents-in (was bytes) at) bar (entry-in (was bytes) at i)) ⌝ }
 {
     let list = entry_list(bytes, at, i);
-    match decode_postings_for(bytes, at, list, bar.id) {
+    match decode_postings_for(bytes, at, list, bar.id, marks, ids) {
         Tally::Positions(hits) => {
             if hits == 0 {
                 return Counted::Count(0);
@@ -64,10 +76,14 @@ fn lines_len(bytes: &[u8], at: Layout, bar: Bar) -> Counted
     ensures { λ r. ⌜ r ≡ count-of (lines-in (was bytes) at bar (at .terms) 0) ⌝ }
 {
     let terms = long(at.terms);
+    let metadata = at.metadata;
+    let lists = at.lists;
+    let marks = mark_documents(&bytes[metadata..lists], at.documents);
+    let ids = mark_ids(marks);
     let mut size: usize = 0;
     let mut i: usize = 0;
     while i < terms {
-        match line_len(bytes, at, bar, i) {
+        match line_len(bytes, at, bar, i, marks, &ids) {
             Counted::Count(n) => {
                 size += n;
                 i += 1;

@@ -82,8 +82,8 @@ part-name-len-end c =
 name-len-requires : tie.Need-name-len-requires
 name-len-requires c κs = search needs
 
-add-t27 : tie.Need-add-t27
-add-t27 c =
+add-t29 : tie.Need-add-t29
+add-t29 c =
     let a = c .before .before .before .before .before .before .before .before .before .before .before .before .args in
     let r = c .before .before .before .entry-name .result in
     omega (arith, c .name-len .ensures, name-most 12 (between (r .start) (r .end) (cut (now (a .bytes)) (a .at) .names)))
@@ -129,7 +129,7 @@ line-len-spec =
     part-name-len-start
     part-name-len-end
     name-len-requires
-    add-t27
+    add-t29
     enum-known-x
     returns-2
     returns-3)
