@@ -13,8 +13,8 @@
  *    kind is a refusal: kind, which and index say what was refused, first to fourth are 0, and every lent buffer is unchanged.
  *  - After acceptance an answer of n elements fills the first n elements of its buffer; the elements behind them are unchanged.
  *  - No call allocates memory, opens a file or keeps state, and all calls are thread-safe. No pointer is kept after the return.
- *  - Stack: under 64 KiB for the searches, under 16 KiB for pstp_midi_bars (tables of 128 numbers), under 4 KiB for every other call. This
- *    is measured (tests/c/stack.c), not proved.
+ *  - Stack: under 64 KiB for the searches, under 16 KiB for pstp_midi_bars and pstp_bar_sheet (tables of 128 places), under 4 KiB for every
+ *    other call. This is measured (tests/c/stack.c), not proved.
  *
  * What the caller must ensure
  *

@@ -51,8 +51,8 @@ of nanoseconds a document that stays level is linear.
 ";
 
 pub const SCATTERED: &str = "\
-Sounds that the first and the last bar alone have, in bars of 16 steps: the worst for `bar_sheet`. Each list's check walks the metadata up
-to the list's last bar (decision 70), so this time grows with sounds times bars; the Rust looks ids up in a table on the heap.
+Sounds that the first and the last bar alone have, in bars of 16 steps. The check of a list looks each document up from the nearest of 128
+places in the metadata, or from the one before, whichever is further on (decision 70); the Rust, in a table on the heap.
 ";
 
 pub const STACK: &str = "\

@@ -7,7 +7,7 @@
 #include <string.h>
 #include <ucontext.h>
 
-enum { SEARCH = 65536, MIDI = 16384, OTHER = 4096, PAINT = 0xA5 };
+enum { SEARCH = 65536, TABLES = 16384, OTHER = 4096, PAINT = 0xA5 };
 
 static uint8_t stack[4 * SEARCH];
 static ucontext_t host, guest;
@@ -105,8 +105,8 @@ static const struct {
     {"ordered", ordered, 3, 0, 0, 0, SEARCH},
     {"unordered", unordered, 3, 0, 0, 0, SEARCH},
     {"near_match", near_two, 3, 0, 0, 0, SEARCH},
-    {"midi_bars", midi_bars, 2, 128, 256, 256, MIDI},
-    {"bar_sheet", bar_sheet, 81 * 129, 0, 0, 0, OTHER},
+    {"midi_bars", midi_bars, 2, 128, 256, 256, TABLES},
+    {"bar_sheet", bar_sheet, 81 * 129, 0, 0, 0, TABLES},
 };
 
 static void run(void) {
@@ -130,7 +130,7 @@ static size_t depth_of(void (*call)(void)) {
 }
 
 void test_stack(void) {
-    size_t most = 0, of_midi = 0;
+    size_t most = 0, of_midi = 0, of_sheet = 0;
     const char *deepest = "";
     make_file();
     for (size_t i = 0; i < sizeof calls / sizeof calls[0]; i++) {
@@ -147,7 +147,10 @@ void test_stack(void) {
             if (calls[i].call == midi_bars && depth > of_midi) {
                 of_midi = depth;
             }
+            if (calls[i].call == bar_sheet && depth > of_sheet) {
+                of_sheet = depth;
+            }
         }
     }
-    printf("stack: at most %zu bytes (%s); midi_bars %zu\n", most, deepest, of_midi);
+    printf("stack: at most %zu bytes (%s); midi_bars %zu, bar_sheet %zu\n", most, deepest, of_midi, of_sheet);
 }

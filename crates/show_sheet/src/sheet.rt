@@ -49,7 +49,8 @@ fn line_len(
     marks: [Documents; 128],
     ids: &[u32; 128],
 ) -> Counted
-    requires { ⌜ Drawable (now bytes) at bar × (i < at .terms) × Marks (cut (now bytes) at .metadata) (documents-in (now bytes) at) marks ⌝ }
+    requires { ⌜ Drawable (now bytes) at bar × (i < at .terms)
+        × Marks (cut (now bytes) at .metadata) (documents-in (now bytes) at) marks ⌝ }
     ensures { λ r. ⌜ r ≡ count-of (line-in (documents-in (was bytes) at) bar (entry-in (was bytes) at i)) ⌝ }
 {
     let list = entry_list(bytes, at, i);

@@ -68,8 +68,12 @@ loop-holds c =
 line-len-requires : tie.Need-line-len-requires Inv-loop μ-loop
 line-len-requires c κs =
     let l = c .before .before in
-    let m = l .before .before in
-    (m .before .before .before .before .pre, omega (arith, m .before .before .long .ensures, c .before .loop-test .taken), m .mark-documents .ensures)
+    let m = l .before .before in (
+      m .before .before .before .before .pre,
+      omega (arith, m .before .before .long .ensures, c .before .loop-test .taken),
+      m
+          .mark-documents .ensures,
+    )
 
 enum-known-n : tie.Need-enum-known-n Inv-loop μ-loop
 enum-known-n c = search needs
@@ -86,8 +90,11 @@ loop-less c = search needs
 
 loop-again : tie.Need-loop-again Inv-loop μ-loop
 loop-again c =
-    let l = c .before .before .before .before .before .before .loop in
-    (omega (arith, most c, l .inv .0), measured-next _ _ _ _ _ _ (l .inv .1) (c .before .before .before .before .before .loop-test .taken) (counted c))
+    let l = c .before .before .before .before .before .before .loop in (
+      omega (arith, most c, l .inv .0),
+      measured-next _ _ _ _ _ _ (l .inv .1) (c .before .before .before .before .before .loop-test
+          .taken) (counted c),
+    )
 
 enum-known-x : tie.Need-enum-known-x Inv-loop μ-loop
 enum-known-x c = search needs
