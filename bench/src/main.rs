@@ -5,10 +5,12 @@
 //!   bench limits                       the lists at their limits
 //!   bench midi                         bars from MIDI files
 //!   bench sheet                        a bar on paper
+//!   bench checksum                     bytes a second
 //!   bench stack                        the stack of every call
-//! Read in this order: data, calls, library, drawn, originals, measure, compare, limits, plain, midi, sheet, stack, report, text.
+//! Read in this order: data, calls, library, drawn, originals, measure, compare, checksum, limits, plain, midi, sheet, stack, report, text.
 mod again;
 mod calls;
+mod checksum;
 mod compare;
 mod data;
 mod drawn;
@@ -84,6 +86,7 @@ fn main() {
             report::sheets(&sheet::all(&[1000, 10_000, 100_000], 15));
             return report::sheets(&sheet::scattered(100_000, &[50, 500, 5000], 3));
         }
+        [only] if only == "checksum" => return report::checksum(&checksum::all(&[64, 4096, 1 << 24], 15)),
         [only] if only == "stack" => return report::stack(&depths()),
         _ => {}
     }
@@ -101,6 +104,8 @@ fn main() {
     let sheets = sheet::all(&[1000, 10_000, 100_000], if quick { 5 } else { 15 });
     let scattered = sheet::scattered(100_000, &[50, 500, 5000], if quick { 1 } else { 3 });
 
+    let checksums = checksum::all(&[64, 4096, if quick { 1 << 20 } else { 1 << 24 }], if quick { 5 } else { 15 });
+
     println!("## The data\n\n{}", text::DATA);
     report::data(&sizes);
     println!("\n## Every call, opened each time\n\n{}", text::WHOLE);
@@ -111,6 +116,8 @@ fn main() {
     report::aims(&sizes[1]);
     println!("\n## Growth with size\n\n{}", text::GROWTH);
     report::growth(&sizes);
+    println!("\n## The checksum\n\n{}", text::CHECKSUM);
+    report::checksum(&checksums);
     println!("\n## A hostile list\n\n{}", text::HOSTILE);
     report::hostile(&hostile);
     println!("\n## At the limits\n\n{}", text::LIMITS);

@@ -1,4 +1,5 @@
 //! The tables of docs/PERFORMANCE.md.
+use crate::checksum::Checksum;
 use crate::compare::{Row, Size};
 use crate::limits::{Hostile, Limit};
 use crate::midi::Midi;
@@ -114,6 +115,18 @@ pub fn limits(limits: &[Limit]) {
     for l in limits {
         let three = |[ours, quick, slow]: [f64; 3]| [format!("{:.1}", ours / 1e9), ratio(ours, quick), ratio(ours, slow)];
         line([l.name.into(), grouped(l.terms), grouped(l.bytes)].into_iter().chain(three(l.write)).chain(three(l.open)));
+    }
+}
+
+/// Millions of bytes a second.
+pub fn checksum(all: &[Checksum]) {
+    let names = ["MB/s", "Rust: MB/s", "with a table: MB/s", "of the Rust", "with a table", "eight steps in Rust: MB/s"];
+    head("Bytes of the list", names.map(String::from));
+    for c in all {
+        let [ours, quick, slow] = c.open;
+        let speed = |time: f64| format!("{:.0}", c.bytes as f64 / time * 1e3);
+        let ratios = [ratio(ours, quick), ratio(ours, slow)];
+        line([grouped(c.bytes)].into_iter().chain(c.open.map(speed)).chain(ratios).chain([speed(c.steps)]));
     }
 }
 

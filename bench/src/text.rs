@@ -23,6 +23,11 @@ Nanoseconds a document, opened each time, on the machine that wrote this page: t
 level is linear.
 ";
 
+pub const CHECKSUM: &str = "\
+A segment of one list, opened: of its bytes all but some 110 are the list's, and opening takes their checksum and no more. In the last
+column the eight steps for each byte, written in Rust, over the same bytes and nothing else. MB: a million bytes.
+";
+
 pub const HOSTILE: &str = "\
 One document. Two sounds alternate two steps apart, and the questions want them closer: none is found, and every position has to be looked at
 (up to 16,777,216 positions, half of each sound). Last, one sound in runs of 127 steps, and a phrase that names it 128 times. Level is linear.

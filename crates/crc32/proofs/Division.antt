@@ -10,11 +10,11 @@ use lib.Dec.{eqb}
 use lib.ListN.{length, replicate, length-append}
 use lib.Bits.{bitXor, xor-comm, xor-zero-r, xor-shifted, xor-block}
 use Rattle.crc32.specs.Crc32.{differs, plus, generator, divided, remainder, bits, message, complement-first, number, crc32Of}
-use Rattle.crc32.specs.Steps.{step, steps, taken-in}
+use Rattle.crc32.specs.Formula.{shift, shifts, along}
 use Rattle.crc32.specs.Claims as claims
-use Rattle.common.proofs.Bytes.{Bytes, none, one}
-use Rattle.crc32.proofs.Xor.{xor-assoc, step-even}
-use Rattle.crc32.proofs.Registers.{along}
+use Rattle.common.proofs.Bytes.{Bytes, none, one, each-below}
+use Rattle.crc32.proofs.Xor.{xor-assoc}
+use Rattle.crc32.proofs.Registers.{shift-even}
 
 -- ---- sums of polynomials
 
@@ -31,7 +31,7 @@ plus-assoc (x ∷ xs) [] zs = refl
 plus-assoc (x ∷ xs) (y ∷ ys) [] = refl
 plus-assoc (x ∷ xs) (y ∷ ys) (z ∷ zs) = ap₂ (λ b l. b ∷ l) (differs-assoc x y z) (plus-assoc xs ys zs)
 
-plus-length : (xs ys : List Bool) → length xs ≤ length ys → length (plus xs ys) ≡ length ys
+pub plus-length : (xs ys : List Bool) → length xs ≤ length ys → length (plus xs ys) ≡ length ys
 unfolding plus
 plus-length [] ys h = refl
 plus-length (x ∷ xs) [] h = absurd (omega arith)
@@ -109,72 +109,76 @@ number-plus (x ∷ xs) (y ∷ ys) =
     ∙ sym (xor-block 1 (number xs) (number ys) (bit x) (bit y) (bit-lt x) (bit-lt y))
     ∙ ap₂ bitXor (sym (number-cons x xs)) (sym (number-cons y ys))
 
-number-bits : (n b : ℕ) → b < 2 ^ n → number (bits n b) ≡ b
+pub number-bits : (n b : ℕ) → b < 2 ^ n → number (bits n b) ≡ b
 unfolding number bits
 number-bits zero b h = omega arith
 number-bits (suc n) b h =
     number-cons (eqb (b % 2) 1) (bits n (b / 2))
     ∙ omega (arith, number-bits n (b / 2) (omega (arith, rw (pow-suc 2 n) at h)), bit-odd (b % 2) (omega arith))
 
--- a step takes the highest coefficient away
-step-cons : (x : ℕ) (b : Bool) (bs : List Bool) → step (bitXor x (number (b ∷ bs))) ≡ bitXor (number bs) (step (bitXor x (bit b)))
-step-cons x b bs =
-    ap step
+pub reflected : claims.Reflected
+unfolding number
+reflected = refl
+
+-- a shift takes the highest coefficient away
+shift-cons : (x : ℕ) (b : Bool) (bs : List Bool) → shift (bitXor x (number (b ∷ bs))) ≡ bitXor (number bs) (shift (bitXor x (bit b)))
+shift-cons x b bs =
+    ap shift
     (ap (bitXor x) (number-cons b bs ∙ sym (xor-shifted (number bs) 1 (bit b) (bit-lt b)) ∙ xor-comm (number bs * 2) (bit b))
     ∙ sym (xor-assoc x (bit b) (number bs * 2))
     ∙ xor-comm (bitXor x (bit b)) (number bs * 2))
-    ∙ step-even (number bs) (bitXor x (bit b))
+    ∙ shift-even (number bs) (bitXor x (bit b))
 
 -- ---- the register along bits, each added to it as a coefficient goes
 
-along-bits : ℕ → List Bool → ℕ
+unfoldable pub along-bits : ℕ → List Bool → ℕ
 along-bits c [] = c
-along-bits c (b ∷ bs) = along-bits (step (bitXor c (bit b))) bs
+along-bits c (b ∷ bs) = along-bits (shift (bitXor c (bit b))) bs
 
 -- w: what the division has added so far to the coefficients that come next
-Divides-on : List Bool → Type 0
+unfoldable pub Divides-on : List Bool → Type 0
 Divides-on bs = (w : List Bool) → number (divided (length bs) (plus w (bs ++ replicate 32 false))) ≡ along-bits (number w) bs
 
 one-more : (bs : List Bool) → Divides-on bs → (h : Bool) (t : List Bool)
-    → number (divided (suc (length bs)) (h ∷ plus t (bs ++ replicate 32 false))) ≡ along-bits (bitXor (number t) (step (bit h))) bs
-unfolding Divides-on divided step number
+    → number (divided (suc (length bs)) (h ∷ plus t (bs ++ replicate 32 false))) ≡ along-bits (bitXor (number t) (shift (bit h))) bs
+unfolding Divides-on divided shift number
 one-more bs before false t = before t ∙ ap (λ x. along-bits x bs) (sym (xor-zero-r (number t)))
 one-more bs before true t =
     ap (λ l. number (divided (length bs) l)) (sym (plus-assoc generator t (bs ++ replicate 32 false)))
     ∙ before (plus generator t)
-    ∙ ap (λ x. along-bits x bs) (number-plus generator t ∙ xor-comm (number generator) (number t))
+    ∙ ap (λ x. along-bits x bs) (number-plus generator t ∙ xor-comm (number generator) (number t) ∙ ap (bitXor (number t)) reflected)
 
-by-division : (bs : List Bool) → Divides-on bs
+pub by-division : (bs : List Bool) → Divides-on bs
 unfolding Divides-on divided plus number along-bits
 by-division [] w = number-plus w (replicate 32 false) ∙ xor-zero-r (number w)
 by-division (b ∷ bs) [] = one-more bs (by-division bs) b []
 by-division (b ∷ bs) (h ∷ t) =
     one-more bs (by-division bs) (differs h b) t
     ∙ ap (λ x. along-bits x bs)
-    (ap (λ x. bitXor (number t) (step x)) (bit-sum h b ∙ xor-comm (bit h) (bit b))
-    ∙ sym (step-cons (bit b) h t)
-    ∙ ap step (xor-comm (bit b) (number (h ∷ t))))
+    (ap (λ x. bitXor (number t) (shift x)) (bit-sum h b ∙ xor-comm (bit h) (bit b))
+    ∙ sym (shift-cons (bit b) h t)
+    ∙ ap shift (xor-comm (bit b) (number (h ∷ t))))
 
 -- ---- the register along bytes
 
-steps-bits : (bs : List Bool) (c : ℕ) → steps (length bs) (bitXor c (number bs)) ≡ along-bits c bs
-unfolding steps number along-bits
-steps-bits [] c = xor-zero-r c
-steps-bits (b ∷ bs) c =
-    ap (steps (length bs)) (step-cons c b bs ∙ xor-comm (number bs) (step (bitXor c (bit b))))
-    ∙ steps-bits bs (step (bitXor c (bit b)))
+pub shifts-bits : (bs : List Bool) (c : ℕ) → shifts (length bs) (bitXor c (number bs)) ≡ along-bits c bs
+unfolding shifts number along-bits
+shifts-bits [] c = xor-zero-r c
+shifts-bits (b ∷ bs) c =
+    ap (shifts (length bs)) (shift-cons c b bs ∙ xor-comm (number bs) (shift (bitXor c (bit b))))
+    ∙ shifts-bits bs (shift (bitXor c (bit b)))
 
 bits-append : (bs cs : List Bool) (c : ℕ) → along-bits c (bs ++ cs) ≡ along-bits (along-bits c bs) cs
 unfolding along-bits
 bits-append [] cs c = refl
-bits-append (b ∷ bs) cs c = bits-append bs cs (step (bitXor c (bit b)))
+bits-append (b ∷ bs) cs c = bits-append bs cs (shift (bitXor c (bit b)))
 
 along-message : {l : List ℕ} → Bytes l → (c : ℕ) → along c l ≡ along-bits c (message l)
-unfolding along taken-in message bits along-bits
+unfolding along message bits along-bits
 along-message none c = refl
 along-message (one {b = b} {l = l} h r) c =
-    ap (λ x. along (steps 8 (bitXor c x)) l) (sym (number-bits 8 b h))
-    ∙ ap (λ x. along x l) (steps-bits (bits 8 b) c)
+    ap (λ x. along (shifts 8 (bitXor c x)) l) (sym (number-bits 8 b h))
+    ∙ ap (λ x. along x l) (shifts-bits (bits 8 b) c)
     ∙ along-message r (along-bits c (bits 8 b))
     ∙ sym (bits-append (bits 8 b) (message l) c)
 
@@ -212,6 +216,6 @@ complemented m =
     ∙ ap (λ n. number (map not (divided n added))) (omega arith)
     ∙ ap (λ l. number (map not (remainder l))) (sym (complement-plus 32 p (omega arith)))
 
-pub register-is-crc : (l : List ℕ) → Bytes l → bitXor (along 0xFFFFFFFF l) 0xFFFFFFFF ≡ crc32Of l
+pub formula-agrees : claims.Formula-agrees
 unfolding crc32Of
-register-is-crc l h = ap (λ x. bitXor x 0xFFFFFFFF) (along-message h 0xFFFFFFFF) ∙ complemented (message l)
+formula-agrees l h = ap (λ x. bitXor x 0xFFFFFFFF) (along-message (each-below l h) 0xFFFFFFFF) ∙ complemented (message l)

@@ -1,5 +1,5 @@
 -- Laws that belong to no one function, lowest first.
-pub mod Table
-pub mod Registers
 pub mod Xor
+pub mod Registers
 pub mod Division
+pub mod Steps

@@ -1,10 +1,13 @@
--- What is claimed of the definition, of every input; proved in proofs/Division.antt.
-use Prim.Native.Nat.{_≤_}
+-- What is claimed of the definitions, of every input; proved in proofs/Division.antt and proofs/Steps.antt.
+use Prim.Native.Nat.{ℕ, _^_, _≤_, _<_}
 use mathlib.Core.Path.{_≡_}
 use mathlib.Core.List.{List, [], _∷_, _++_}
 use mathlib.Core.Bool.{Bool, true, false}
-use lib.ListN.{length, replicate}
-use Rattle.crc32.specs.Crc32.{plus, generator, remainder}
+use lib.Bits.{bitXor}
+use lib.ListN.{length, getD, replicate}
+use Rattle.crc32.specs.Crc32.{plus, generator, remainder, number, crc32Of}
+use Rattle.crc32.specs.Formula.{shift, shifts, by-formula}
+use Rattle.crc32.specs.Steps.{step, taken-in}
 
 -- The product of a polynomial and G = x^32 + generator, as many coefficients as q has and 32 more
 unfoldable pub times-G : List Bool → List Bool
@@ -20,3 +23,18 @@ pub record Is-remainder (p r : List Bool) : Type 0 where
 
 abbrev pub Divides : Type 0
 Divides = (p : List Bool) → 32 ≤ length p → Is-remainder p (remainder p)
+
+-- The reflected polynomial of document 01 is the standard's G: x^31 is the lowest bit
+abbrev pub Reflected : Type 0
+Reflected = number generator ≡ 0xEDB88320
+
+-- A shift and a conditional exclusive-or are one step of the standard's division, and eight of them take a byte in
+abbrev pub Step-by-step : Type 0
+Step-by-step = (r : ℕ) → r < 2 ^ 32 → step r ≡ shift r
+
+abbrev pub Byte-by-byte : Type 0
+Byte-by-byte = (r b : ℕ) → r < 2 ^ 32 → b < 256 → taken-in r b ≡ shifts 8 (bitXor r b)
+
+-- The formula gives the standard's checksum
+abbrev pub Formula-agrees : Type 0
+Formula-agrees = (bytes : List ℕ) → ((i : ℕ) → getD bytes i 0 < 256) → by-formula bytes ≡ crc32Of bytes

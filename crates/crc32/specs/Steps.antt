@@ -1,27 +1,14 @@
--- The checksum's register, as the code goes: a step of the proof. specs/Crc32.antt says what the checksum is.
-use Prim.Native.Nat.{ℕ, zero, suc, _<_, _/_, _%_}
-use mathlib.Core.Path.{_≡_}
-use mathlib.Core.List.{List}
-use lib.ListN.{getD}
-use lib.Bits.{bitXor}
+-- The standard's division a step and a byte at a time, for the contracts of src/checksum.rt. R(x) as a number, as in crc32Of.
+use Prim.Native.Nat.{ℕ}
+use mathlib.Core.List.{[], _∷_, _++_}
+use mathlib.Core.Bool.{false}
+use lib.ListN.{replicate}
+use Rattle.crc32.specs.Crc32.{plus, remainder, bits, number}
 
--- The reflected polynomial (document 01) where the lowest bit of the register is set
-abbrev pub reduced : ℕ → ℕ
-reduced zero = 0
-reduced (suc n) = 0xEDB88320
-
--- One step: a shift, and the polynomial where a bit was shifted out
+-- One step: R(x) · x divided by G(x)
 unfoldable pub step : ℕ → ℕ
-step c = bitXor (c / 2) (reduced (c % 2))
+step r = number (remainder (bits 32 r ++ false ∷ []))
 
-unfoldable pub steps : ℕ → ℕ → ℕ
-steps zero c = c
-steps (suc n) c = steps n (step c)
-
--- The register after one byte more
+-- One byte more, B(x): R(x) · x^8 + B(x) · x^32 divided by G(x)
 unfoldable pub taken-in : ℕ → ℕ → ℕ
-taken-in c b = steps 8 (bitXor c b)
-
--- The table's rule (document 01): entry k is the eight-step remainder of k
-pub record Eight-steps (table : List ℕ) : Type 0 where
-  pub entry : (k : ℕ) → k < 256 → getD table k 0 ≡ steps 8 k
+taken-in r b = number (remainder (plus (bits 32 r) (bits 8 b ++ replicate 32 false)))

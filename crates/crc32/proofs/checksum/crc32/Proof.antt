@@ -1,27 +1,25 @@
 use mathlib.Core.Path.{_≡_, refl, sym, ap, _∙_}
-use Prim.Native.Nat.{ℕ, _-_, _≤_}
+use Prim.Native.Nat.{ℕ, _+_, _-_, _^_, _≤_, _<_}
 use native.Mathlib.Omega.{arith}
 use lib.Bits.{bitXor}
-use lib.ListN.{length, drop}
+use lib.ListN.{length, drop, getD}
 use denote.Ref.{now}
 use borrow.Author.Needs.{needs}
-use Rattle.crc32.specs.Steps.{step, steps, Eight-steps}
-use Rattle.common.proofs.Bytes.{each-below}
-use Rattle.crc32.proofs.Registers.{rule, along, next, done}
-use Rattle.crc32.proofs.Division.{register-is-crc}
+use Rattle.crc32.specs.Formula.{along}
+use Rattle.crc32.proofs.Registers.{next, done}
+use Rattle.crc32.proofs.Division.{formula-agrees}
+use Rattle.crc32.proofs.Steps.{byte-by-byte}
 use Rattle.crc32.proofs.checksum.crc32.Statement.{statement}
 use Rattle.crc32.proofs.checksum.crc32.Tie as tie
 
 abbrev Inv-loop : tie.InvT-loop
-Inv-loop s table register₀ i₀ register i =
-    (i ≤ length s) × Eight-steps table × (along register (drop i s) ≡ along 0xFFFFFFFF s)
+Inv-loop s remainder₀ i₀ remainder i = (i ≤ length s) × (remainder < 2 ^ 32) × (along remainder (drop i s) ≡ along 0xFFFFFFFF s)
 
 abbrev μ-loop : tie.MeasureT-loop
-μ-loop s table register₀ i₀ register i = length s - i
+μ-loop s remainder₀ i₀ remainder i = length s - i
 
 loop-holds : tie.Need-loop-holds Inv-loop μ-loop
-unfolding steps step
-loop-holds c = (omega arith, rule _ refl refl, refl)
+loop-holds c = (omega arith, omega arith, refl)
 
 shared-slice-read-update : tie.Need-shared-slice-read-update Inv-loop μ-loop
 shared-slice-read-update c = omega arith
@@ -37,16 +35,23 @@ loop-less c = omega arith
 
 loop-again : tie.Need-loop-again Inv-loop μ-loop
 loop-again c =
-    let l = c .before .before .before .before .loop in
-    let s = now (c .before .before .before .before .before .before .args .s) in
-    (omega arith, l .inv .1, rw (c .update .ensures) (next s (l .i) (l .register) (omega arith) ∙ l .inv .2))
+    let l = c .before .before .before .loop in
+    let known = c .before .before .before .before .shared-slice-known in
+    let s = now (c .before .before .before .before .before .args .s) in (
+      omega arith,
+      omega arith,
+      ap (λ x. along x (drop (l .i + 1) s))
+          (c .update .ensures ∙ byte-by-byte (l .remainder) (getD s (l .i) 0) (omega arith) (omega (arith, known .given (l .i))))
+          ∙ next s (l .i) (l .remainder) (omega arith)
+          ∙ l .inv .2,
+    )
 
 returns : tie.Need-returns Inv-loop μ-loop
 returns c =
     let l = c .before .loop in
     let s = now (c .before .before .before .args .s) in
-    ap (λ (x : ℕ). bitXor x 0xFFFFFFFF) (sym (done s (l .i) (l .register) (omega arith)) ∙ l .inv .2)
-    ∙ register-is-crc s (each-below s (λ i. omega (arith, c .before .before .shared-slice-known .given i)))
+    ap (λ (x : ℕ). bitXor x 0xFFFFFFFF) (sym (done s (l .i) (l .remainder) (omega arith)) ∙ l .inv .2)
+    ∙ formula-agrees s (λ i. omega (arith, c .before .before .shared-slice-known .given i))
 
 pub crc32-spec : {M : Type 1} → statement M
 crc32-spec =
