@@ -1,4 +1,4 @@
-//! A table in crc32fast's place: the same checksum a byte at a time, by 256 entries, as the library does it.
+//! A table in crc32fast's place: the same checksum a byte at a time, by 256 entries.
 
 const fn table() -> [u32; 256] {
     let mut table = [0u32; 256];

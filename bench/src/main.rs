@@ -1,5 +1,5 @@
 //! Times the library against the original Rust, in one process on the same inputs, and prints docs/PERFORMANCE.md but for its notes.
-//!   bench CODE [--quick]            CODE: bytes of machine code in the library
+//!   bench CODE CONSTANTS [--quick]     bytes of machine code and of constants in the library
 //!   bench again CALL DOCUMENTS TIMES   one call of the library over and over, for a profiler
 //!   bench one CALL DOCUMENTS ROUNDS    one call on both sides
 //!   bench limits                       the lists at their limits
@@ -86,11 +86,12 @@ fn main() {
             report::sheets(&sheet::all(&[1000, 10_000, 100_000], 15));
             return report::sheets(&sheet::scattered(100_000, &[50, 500, 5000], 3));
         }
-        [only] if only == "checksum" => return report::checksum(&checksum::all(&[64, 4096, 1 << 24], 15)),
+        [only] if only == "checksum" => return report::checksum(&checksum::all(&[4096, 1 << 24], 15)),
         [only] if only == "stack" => return report::stack(&depths()),
         _ => {}
     }
-    let code: usize = words.first().and_then(|word| word.parse().ok()).expect("the size of the code");
+    let number = |i: usize| -> usize { words.get(i).and_then(|word| word.parse().ok()).expect("a number of bytes") };
+    let (code, constants) = (number(0), number(1));
     let quick = words.iter().any(|word| word == "--quick");
 
     let sizes: Vec<compare::Size> = if quick {
@@ -104,7 +105,7 @@ fn main() {
     let sheets = sheet::all(&[1000, 10_000, 100_000], if quick { 5 } else { 15 });
     let scattered = sheet::scattered(100_000, &[50, 500, 5000], if quick { 1 } else { 3 });
 
-    let checksums = checksum::all(&[64, 4096, if quick { 1 << 20 } else { 1 << 24 }], if quick { 5 } else { 15 });
+    let checksums = checksum::all(&[4096, if quick { 1 << 20 } else { 1 << 24 }], if quick { 5 } else { 15 });
 
     println!("## The data\n\n{}", text::DATA);
     report::data(&sizes);
@@ -134,5 +135,5 @@ fn main() {
     report::sheets(&scattered);
     println!("\n## Stack and code\n\n{}", text::STACK);
     report::stack(&depths());
-    println!("\nThe library's machine code has {} bytes.", report::grouped(code));
+    println!("\nThe library's machine code has {} bytes, its constants {}.", report::grouped(code), report::grouped(constants));
 }

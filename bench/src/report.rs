@@ -120,7 +120,7 @@ pub fn limits(limits: &[Limit]) {
 
 /// Millions of bytes a second.
 pub fn checksum(all: &[Checksum]) {
-    let names = ["MB/s", "Rust: MB/s", "with a table: MB/s", "of the Rust", "with a table", "eight steps in Rust: MB/s"];
+    let names = ["MB/s", "Rust: MB/s", "with a table: MB/s", "of the Rust", "with a table", "steps as they stand: MB/s"];
     head("Bytes of the list", names.map(String::from));
     for c in all {
         let [ours, quick, slow] = c.open;

@@ -24,8 +24,9 @@ level is linear.
 ";
 
 pub const CHECKSUM: &str = "\
-A segment of one list, opened: of its bytes all but some 110 are the list's, and opening takes their checksum and no more. In the last
-column the eight steps for each byte, written in Rust, over the same bytes and nothing else. MB: a million bytes.
+A segment of one list, opened: all but some 110 bytes are the list's, and opening takes their checksum and no more. The library's source
+works out eight steps for each byte, of which the kit's compiler makes a lookup (decision 74). The last column is of the steps as they stand:
+written in Rust and kept from such a compiler, over the list's bytes and nothing else. MB: a million bytes.
 ";
 
 pub const HOSTILE: &str = "\

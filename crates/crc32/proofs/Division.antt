@@ -10,11 +10,11 @@ use lib.Dec.{eqb}
 use lib.ListN.{length, replicate, length-append}
 use lib.Bits.{bitXor, xor-comm, xor-zero-r, xor-shifted, xor-block}
 use Rattle.crc32.specs.Crc32.{differs, plus, generator, divided, remainder, bits, message, complement-first, number, crc32Of}
-use Rattle.crc32.specs.Formula.{shift, shifts, along}
+use Rattle.crc32.specs.Formula.{step, steps, along}
 use Rattle.crc32.specs.Claims as claims
 use Rattle.common.proofs.Bytes.{Bytes, none, one, each-below}
 use Rattle.crc32.proofs.Xor.{xor-assoc}
-use Rattle.crc32.proofs.Registers.{shift-even}
+use Rattle.crc32.proofs.Registers.{step-even}
 
 -- ---- sums of polynomials
 
@@ -120,28 +120,28 @@ pub reflected : claims.Reflected
 unfolding number
 reflected = refl
 
--- a shift takes the highest coefficient away
-shift-cons : (x : ℕ) (b : Bool) (bs : List Bool) → shift (bitXor x (number (b ∷ bs))) ≡ bitXor (number bs) (shift (bitXor x (bit b)))
-shift-cons x b bs =
-    ap shift
+-- a step takes the highest coefficient away
+step-cons : (x : ℕ) (b : Bool) (bs : List Bool) → step (bitXor x (number (b ∷ bs))) ≡ bitXor (number bs) (step (bitXor x (bit b)))
+step-cons x b bs =
+    ap step
     (ap (bitXor x) (number-cons b bs ∙ sym (xor-shifted (number bs) 1 (bit b) (bit-lt b)) ∙ xor-comm (number bs * 2) (bit b))
     ∙ sym (xor-assoc x (bit b) (number bs * 2))
     ∙ xor-comm (bitXor x (bit b)) (number bs * 2))
-    ∙ shift-even (number bs) (bitXor x (bit b))
+    ∙ step-even (number bs) (bitXor x (bit b))
 
 -- ---- the register along bits, each added to it as a coefficient goes
 
 unfoldable pub along-bits : ℕ → List Bool → ℕ
 along-bits c [] = c
-along-bits c (b ∷ bs) = along-bits (shift (bitXor c (bit b))) bs
+along-bits c (b ∷ bs) = along-bits (step (bitXor c (bit b))) bs
 
 -- w: what the division has added so far to the coefficients that come next
 unfoldable pub Divides-on : List Bool → Type 0
 Divides-on bs = (w : List Bool) → number (divided (length bs) (plus w (bs ++ replicate 32 false))) ≡ along-bits (number w) bs
 
 one-more : (bs : List Bool) → Divides-on bs → (h : Bool) (t : List Bool)
-    → number (divided (suc (length bs)) (h ∷ plus t (bs ++ replicate 32 false))) ≡ along-bits (bitXor (number t) (shift (bit h))) bs
-unfolding Divides-on divided shift number
+    → number (divided (suc (length bs)) (h ∷ plus t (bs ++ replicate 32 false))) ≡ along-bits (bitXor (number t) (step (bit h))) bs
+unfolding Divides-on divided step number
 one-more bs before false t = before t ∙ ap (λ x. along-bits x bs) (sym (xor-zero-r (number t)))
 one-more bs before true t =
     ap (λ l. number (divided (length bs) l)) (sym (plus-assoc generator t (bs ++ replicate 32 false)))
@@ -155,30 +155,30 @@ by-division (b ∷ bs) [] = one-more bs (by-division bs) b []
 by-division (b ∷ bs) (h ∷ t) =
     one-more bs (by-division bs) (differs h b) t
     ∙ ap (λ x. along-bits x bs)
-    (ap (λ x. bitXor (number t) (shift x)) (bit-sum h b ∙ xor-comm (bit h) (bit b))
-    ∙ sym (shift-cons (bit b) h t)
-    ∙ ap shift (xor-comm (bit b) (number (h ∷ t))))
+    (ap (λ x. bitXor (number t) (step x)) (bit-sum h b ∙ xor-comm (bit h) (bit b))
+    ∙ sym (step-cons (bit b) h t)
+    ∙ ap step (xor-comm (bit b) (number (h ∷ t))))
 
 -- ---- the register along bytes
 
-pub shifts-bits : (bs : List Bool) (c : ℕ) → shifts (length bs) (bitXor c (number bs)) ≡ along-bits c bs
-unfolding shifts number along-bits
-shifts-bits [] c = xor-zero-r c
-shifts-bits (b ∷ bs) c =
-    ap (shifts (length bs)) (shift-cons c b bs ∙ xor-comm (number bs) (shift (bitXor c (bit b))))
-    ∙ shifts-bits bs (shift (bitXor c (bit b)))
+pub steps-bits : (bs : List Bool) (c : ℕ) → steps (length bs) (bitXor c (number bs)) ≡ along-bits c bs
+unfolding steps number along-bits
+steps-bits [] c = xor-zero-r c
+steps-bits (b ∷ bs) c =
+    ap (steps (length bs)) (step-cons c b bs ∙ xor-comm (number bs) (step (bitXor c (bit b))))
+    ∙ steps-bits bs (step (bitXor c (bit b)))
 
 bits-append : (bs cs : List Bool) (c : ℕ) → along-bits c (bs ++ cs) ≡ along-bits (along-bits c bs) cs
 unfolding along-bits
 bits-append [] cs c = refl
-bits-append (b ∷ bs) cs c = bits-append bs cs (shift (bitXor c (bit b)))
+bits-append (b ∷ bs) cs c = bits-append bs cs (step (bitXor c (bit b)))
 
 along-message : {l : List ℕ} → Bytes l → (c : ℕ) → along c l ≡ along-bits c (message l)
 unfolding along message bits along-bits
 along-message none c = refl
 along-message (one {b = b} {l = l} h r) c =
-    ap (λ x. along (shifts 8 (bitXor c x)) l) (sym (number-bits 8 b h))
-    ∙ ap (λ x. along x l) (shifts-bits (bits 8 b) c)
+    ap (λ x. along (steps 8 (bitXor c x)) l) (sym (number-bits 8 b h))
+    ∙ ap (λ x. along x l) (steps-bits (bits 8 b) c)
     ∙ along-message r (along-bits c (bits 8 b))
     ∙ sym (bits-append (bits 8 b) (message l) c)
 

@@ -2,4 +2,4 @@
 pub mod Xor
 pub mod Registers
 pub mod Division
-pub mod Steps
+pub mod Parts

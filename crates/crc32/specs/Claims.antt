@@ -1,4 +1,4 @@
--- What is claimed of the definitions, of every input; proved in proofs/Division.antt and proofs/Steps.antt.
+-- What is claimed of the definitions, of every input; proved in proofs/Division.antt and proofs/Parts.antt.
 use Prim.Native.Nat.{ℕ, _^_, _≤_, _<_}
 use mathlib.Core.Path.{_≡_}
 use mathlib.Core.List.{List, [], _∷_, _++_}
@@ -6,8 +6,8 @@ use mathlib.Core.Bool.{Bool, true, false}
 use lib.Bits.{bitXor}
 use lib.ListN.{length, getD, replicate}
 use Rattle.crc32.specs.Crc32.{plus, generator, remainder, number, crc32Of}
-use Rattle.crc32.specs.Formula.{shift, shifts, by-formula}
-use Rattle.crc32.specs.Steps.{step, taken-in}
+use Rattle.crc32.specs.Parts.{times-x, taken-in}
+use Rattle.crc32.specs.Formula.{step, steps, by-formula}
 
 -- The product of a polynomial and G = x^32 + generator, as many coefficients as q has and 32 more
 unfoldable pub times-G : List Bool → List Bool
@@ -28,12 +28,12 @@ Divides = (p : List Bool) → 32 ≤ length p → Is-remainder p (remainder p)
 abbrev pub Reflected : Type 0
 Reflected = number generator ≡ 0xEDB88320
 
--- A shift and a conditional exclusive-or are one step of the standard's division, and eight of them take a byte in
+-- A step of the formula, a shift and a conditional exclusive-or, is a step of the standard's division; eight of them take a byte in
 abbrev pub Step-by-step : Type 0
-Step-by-step = (r : ℕ) → r < 2 ^ 32 → step r ≡ shift r
+Step-by-step = (r : ℕ) → r < 2 ^ 32 → times-x r ≡ step r
 
 abbrev pub Byte-by-byte : Type 0
-Byte-by-byte = (r b : ℕ) → r < 2 ^ 32 → b < 256 → taken-in r b ≡ shifts 8 (bitXor r b)
+Byte-by-byte = (r b : ℕ) → r < 2 ^ 32 → b < 256 → taken-in r b ≡ steps 8 (bitXor r b)
 
 -- The formula gives the standard's checksum
 abbrev pub Formula-agrees : Type 0

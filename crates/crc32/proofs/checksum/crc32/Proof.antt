@@ -8,7 +8,7 @@ use borrow.Author.Needs.{needs}
 use Rattle.crc32.specs.Formula.{along}
 use Rattle.crc32.proofs.Registers.{next, done}
 use Rattle.crc32.proofs.Division.{formula-agrees}
-use Rattle.crc32.proofs.Steps.{byte-by-byte}
+use Rattle.crc32.proofs.Parts.{byte-by-byte}
 use Rattle.crc32.proofs.checksum.crc32.Statement.{statement}
 use Rattle.crc32.proofs.checksum.crc32.Tie as tie
 

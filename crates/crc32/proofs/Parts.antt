@@ -8,10 +8,10 @@ use native.Mathlib.Omega.{arith}
 use lib.ListN.{length, replicate, length-append}
 use lib.Bits.{bitXor, xor-zero-r}
 use Rattle.crc32.specs.Crc32.{differs, plus, divided, remainder, bits, number}
-use Rattle.crc32.specs.Steps.{step, taken-in}
-use Rattle.crc32.specs.Formula.{shift, shifts}
+use Rattle.crc32.specs.Parts.{times-x, taken-in}
+use Rattle.crc32.specs.Formula.{step, steps}
 use Rattle.crc32.specs.Claims as claims
-use Rattle.crc32.proofs.Division.{Divides-on, plus-length, number-bits, along-bits, by-division, shifts-bits}
+use Rattle.crc32.proofs.Division.{Divides-on, plus-length, number-bits, along-bits, by-division, steps-bits}
 
 bits-length : (n b : ℕ) → length (bits n b) ≡ n
 unfolding bits
@@ -38,19 +38,19 @@ remainder-along w bs h =
     ap (λ n. number (divided n (plus w (bs ++ replicate 32 false)))) (omega arith) ∙ by-division bs w
 
 pub step-by-step : claims.Step-by-step
-unfolding step along-bits
+unfolding times-x along-bits
 step-by-step r h =
     let below : plus (bits 32 r) (replicate 33 false) ≡ bits 32 r ++ false ∷ [] =
     ap (λ n. plus (bits 32 r) (replicate (suc n) false)) (sym (bits-length 32 r)) ∙ plus-below (bits 32 r) in
     ap (λ p. number (remainder p)) (sym below)
     ∙ remainder-along (bits 32 r) (false ∷ []) (omega (arith, bits-length 32 r))
-    ∙ ap (λ x. shift (bitXor x 0)) (number-bits 32 r h)
-    ∙ ap shift (xor-zero-r r)
+    ∙ ap (λ x. step (bitXor x 0)) (number-bits 32 r h)
+    ∙ ap step (xor-zero-r r)
 
 pub byte-by-byte : claims.Byte-by-byte
 unfolding taken-in
 byte-by-byte r b h k =
     remainder-along (bits 32 r) (bits 8 b) (omega (arith, bits-length 32 r, bits-length 8 b))
     ∙ ap (λ x. along-bits x (bits 8 b)) (number-bits 32 r h)
-    ∙ sym (shifts-bits (bits 8 b) r)
-    ∙ ap₂ (λ n x. shifts n (bitXor r x)) (bits-length 8 b) (number-bits 8 b k)
+    ∙ sym (steps-bits (bits 8 b) r)
+    ∙ ap₂ (λ n x. steps n (bitXor r x)) (bits-length 8 b) (number-bits 8 b k)
