@@ -25,8 +25,8 @@ level is linear.
 
 pub const CHECKSUM: &str = "\
 A segment of one list, opened: all but some 110 bytes are the list's, and opening takes their checksum and no more. The library's source
-works out eight steps for each byte, of which the kit's compiler makes a lookup (decision 74). The last column is of the steps as they stand:
-written in Rust and kept from such a compiler, over the list's bytes and nothing else. MB: a million bytes.
+works out eight steps for each byte, of which the kit's compiler makes a lookup (decision 74). The last column is of the steps as they
+stand: written in Rust and kept from such a compiler, over the list's bytes and nothing else. MB: a million bytes.
 ";
 
 pub const HOSTILE: &str = "\
