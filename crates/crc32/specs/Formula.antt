@@ -4,6 +4,7 @@ use Prim.Native.Nat.{ℕ, zero, suc, _/_, _%_}
 use mathlib.Core.List.{List, [], _∷_}
 use lib.Bits.{bitXor}
 
+-- The polynomial, or nothing if the bit is 0
 abbrev pub polynomial-if : ℕ → ℕ
 polynomial-if zero = 0
 polynomial-if (suc n) = 0xEDB88320
