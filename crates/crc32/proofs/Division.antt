@@ -168,7 +168,7 @@ steps-bits (b ∷ bs) c =
     ap (steps (length bs)) (step-cons c b bs ∙ xor-comm (number bs) (step (bitXor c (bit b))))
     ∙ steps-bits bs (step (bitXor c (bit b)))
 
-bits-append : (bs cs : List Bool) (c : ℕ) → along-bits c (bs ++ cs) ≡ along-bits (along-bits c bs) cs
+pub bits-append : (bs cs : List Bool) (c : ℕ) → along-bits c (bs ++ cs) ≡ along-bits (along-bits c bs) cs
 unfolding along-bits
 bits-append [] cs c = refl
 bits-append (b ∷ bs) cs c = bits-append bs cs (step (bitXor c (bit b)))
@@ -203,7 +203,7 @@ number-not r h =
     ∙ xor-comm (number (replicate 32 true)) (number r)
 
 -- the message's bits with 32 zeros after them, the first 32 complemented: the register has begun with ones
-complemented : (m : List Bool)
+pub complemented : (m : List Bool)
     → bitXor (along-bits 0xFFFFFFFF m) 0xFFFFFFFF ≡ number (map not (remainder (complement-first 32 (m ++ replicate 32 false))))
 unfolding Divides-on number
 complemented m =

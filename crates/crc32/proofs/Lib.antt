@@ -3,3 +3,4 @@ pub mod Xor
 pub mod Registers
 pub mod Division
 pub mod Parts
+pub mod Carried

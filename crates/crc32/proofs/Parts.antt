@@ -3,7 +3,7 @@
 use mathlib.Core.Path.{_≡_, refl, sym, ap, ap₂, _∙_}
 use mathlib.Core.List.{List, [], _∷_, _++_}
 use mathlib.Core.Bool.{Bool, true, false}
-use Prim.Native.Nat.{ℕ, zero, suc, _+_, _/_, _≤_}
+use Prim.Native.Nat.{ℕ, zero, suc, _+_, _/_, _^_, _≤_, _<_}
 use native.Mathlib.Omega.{arith}
 use lib.ListN.{length, replicate, length-append}
 use lib.Bits.{bitXor, xor-zero-r}
@@ -13,7 +13,7 @@ use Rattle.crc32.specs.Formula.{step, steps}
 use Rattle.crc32.specs.Claims as claims
 use Rattle.crc32.proofs.Division.{Divides-on, plus-length, number-bits, along-bits, by-division, steps-bits}
 
-bits-length : (n b : ℕ) → length (bits n b) ≡ n
+pub bits-length : (n b : ℕ) → length (bits n b) ≡ n
 unfolding bits
 bits-length zero b = refl
 bits-length (suc n) b = ap suc (bits-length n (b / 2))
@@ -47,10 +47,14 @@ step-by-step r h =
     ∙ ap (λ x. step (bitXor x 0)) (number-bits 32 r h)
     ∙ ap step (xor-zero-r r)
 
-pub byte-by-byte : claims.Byte-by-byte
+pub byte-along : (r b : ℕ) → r < 2 ^ 32 → taken-in r b ≡ along-bits r (bits 8 b)
 unfolding taken-in
-byte-by-byte r b h k =
+byte-along r b h =
     remainder-along (bits 32 r) (bits 8 b) (omega (arith, bits-length 32 r, bits-length 8 b))
     ∙ ap (λ x. along-bits x (bits 8 b)) (number-bits 32 r h)
+
+pub byte-by-byte : claims.Byte-by-byte
+byte-by-byte r b h k =
+    byte-along r b h
     ∙ sym (steps-bits (bits 8 b) r)
     ∙ ap₂ (λ n x. steps n (bitXor r x)) (bits-length 8 b) (number-bits 8 b k)

@@ -1,4 +1,4 @@
--- What is claimed of the definitions, of every input; proved in proofs/Division.antt and proofs/Parts.antt.
+-- What is claimed of the definitions, of every input; proved in proofs/Division.antt, proofs/Parts.antt and proofs/Carried.antt.
 use Prim.Native.Nat.{ℕ, _^_, _≤_, _<_}
 use mathlib.Core.Path.{_≡_}
 use mathlib.Core.List.{List, [], _∷_, _++_}
@@ -6,7 +6,7 @@ use mathlib.Core.Bool.{Bool, true, false}
 use lib.Bits.{bitXor}
 use lib.ListN.{length, getD, replicate}
 use Rattle.crc32.specs.Crc32.{plus, generator, remainder, number, crc32Of}
-use Rattle.crc32.specs.Parts.{times-x, taken-in}
+use Rattle.crc32.specs.Parts.{times-x, taken-in, all-taken-in, complemented}
 use Rattle.crc32.specs.Formula.{step, steps, by-formula}
 
 -- The product of a polynomial and G = x^32 + generator, as many coefficients as q has and 32 more
@@ -38,3 +38,10 @@ Byte-by-byte = (r b : ℕ) → r < 2 ^ 32 → b < 256 → taken-in r b ≡ steps
 -- The formula gives the standard's checksum
 abbrev pub Formula-agrees : Type 0
 Formula-agrees = (bytes : List ℕ) → ((i : ℕ) → getD bytes i 0 < 256) → by-formula bytes ≡ crc32Of bytes
+
+-- A remainder carried on over a run is carried on over its parts; from 32 ones on and complemented at the end, it is the run's checksum
+abbrev pub Part-by-part : Type 0
+Part-by-part = (r : ℕ) (part rest : List ℕ) → all-taken-in r (part ++ rest) ≡ all-taken-in (all-taken-in r part) rest
+
+abbrev pub Carried-agrees : Type 0
+Carried-agrees = (bytes : List ℕ) → complemented (all-taken-in 0xFFFFFFFF bytes) ≡ crc32Of bytes

@@ -1,6 +1,6 @@
 -- The checks a posting and a term at a time, as the code takes them; then all lists.
 -- Assumes nothing.
-use mathlib.Core.Path.{_≡_, refl, sym, _∙_}
+use mathlib.Core.Path.{_≡_, refl, sym, ap, _∙_}
 use mathlib.Core.Bool.{Bool, true, false, not}
 use mathlib.Core.List.{List}
 use mathlib.Core.Option.{Option, none, some}
@@ -14,21 +14,24 @@ use Rattle.segment.specs.declared.checked.Checked.{Checked}
 use Rattle.segment.specs.declared.checked.Checked.the-variants.{Passed, Refused}
 use Rattle.segment.specs.Refusals.{too-large, list-shape, invalid-layout, empty-term-posting-list}
 use Rattle.segment.specs.Results.{Result, ok, _>>=_, check}
-use Rattle.segment.specs.Records.{Document, Posting, rises, between}
+use Rattle.segment.specs.Records.{Document, Posting, Term, rises, between}
 use Rattle.segment.specs.Metadata.{document}
 use Rattle.segment.specs.Steps.{checked, earlier}
+use Rattle.segment.specs.Written.{lists-bytes}
 use Rattle.write_check_all.specs.declared.walk.Walk.{Walk}
 use Rattle.calls.specs.Given.{Lists, given, posting, postings-in}
 use Rattle.common.specs.Lists.{paired}
 use Rattle.calls.specs.Checks.{check-documents, check-posting, check-postings, check-name, check-terms, check-given, small, shaped}
 use Rattle.calls.specs.Checks.{check-lists}
-use Rattle.write_check_all.specs.Steps.{terms-from, start-walk, Checkable}
+use Rattle.write_check_all.specs.Steps.{terms-from, start-walk, Checkable, measured-lists}
 use Rattle.segment.proofs.Binds.{bind-gives}
 use Rattle.segment.proofs.Accepted.{check-gives, passed-ok}
 use Rattle.segment.proofs.Inversions.{stops, goes-on}
 use Rattle.write_lookup.proofs.Searching.{rises-by-place}
 use Rattle.calls.proofs.Accepted.{documents-give}
+use Rattle.write_checks.specs.Steps.{measured}
 use Rattle.write_checks.proofs.Checking.{later}
+use Rattle.write_checks.proofs.Measuring.{measured-alike}
 use Rattle.calls.proofs.Passing.{shaped-gives}
 use Rattle.common.proofs.Pairs.{lefts}
 use Rattle.write_check_all.proofs.Walking.{postings-step, postings-end, end-of, count-of, last-of, name-at, postings-at}
@@ -162,3 +165,13 @@ module _ (l : Lists) where
           pub lists-terms : checked (check-terms (paired document (l .ids) (l .lengths)) none (terms-from start-walk l))
               ≡ checked (check-lists l)
           lists-terms = goes-on (check-documents none (paired document (l .ids) (l .lengths))) _ whole d
+
+-- with the size of the lists
+pub lists-sized : (l : Lists)
+    → checked (check-terms (paired document (l .ids) (l .lengths)) none (terms-from start-walk l)) ≡ checked (check-lists l)
+    → measured (check-terms (paired document (l .ids) (l .lengths)) none (terms-from start-walk l))
+    (length (lists-bytes (terms-from start-walk l)))
+    ≡ measured-lists l
+lists-sized l e =
+    measured-alike (check-terms (paired document (l .ids) (l .lengths)) none (terms-from start-walk l)) (check-lists l) _ e
+    ∙ ap (λ (ts : List Term). measured (check-lists l) (length (lists-bytes ts))) (terms-start l)

@@ -9,8 +9,11 @@ use Rattle.segment.specs.Texts.{names}
 use Rattle.common.specs.Lists.{paired, parts, total}
 use Rattle.write_lookup.specs.Steps.{Rising-by-index}
 use Rattle.write_check_all.specs.declared.walk.Walk.{Walk}
-use Rattle.calls.specs.Checks.{small as small-test, shaped as shaped-test}
-use Rattle.calls.specs.Given.{Lists, posting, term, postings-in}
+use Rattle.segment.specs.Written.{lists-bytes}
+use Rattle.calls.specs.Checks.{small as small-test, shaped as shaped-test, check-lists}
+use Rattle.calls.specs.Given.{Lists, given, posting, term, postings-in}
+use Rattle.write_checks.specs.declared.measure.Measured.{Measured}
+use Rattle.write_checks.specs.Steps.{measured}
 
 -- the terms from a point of the walk on
 unfoldable pub terms-from : Walk → Lists → List Term
@@ -44,3 +47,7 @@ pub record Checkable (l : Lists) : Type 0 where
   pub small : small-test l ≡ true
   pub shaped : shaped-test l ≡ true
   pub rises : Rising-by-index (l .ids)
+
+-- all lists: the refusal of their checks, or the length of the posting lists
+abbrev pub measured-lists : Lists → Measured
+measured-lists l = measured (check-lists l) (length (lists-bytes (given l .terms)))

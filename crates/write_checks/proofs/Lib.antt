@@ -1,2 +1,3 @@
 -- Laws that belong to no one function, lowest first.
 pub mod Checking
+pub mod Measuring

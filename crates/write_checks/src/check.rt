@@ -1,23 +1,16 @@
-// The writer's refusals of documents, one posting with its positions, and one name.
+// The writer's refusals of documents, one position, and one name.
 use segment::checked::Checked;
-use segment::ids::DocId;
 use segment::ids::TokenPos;
 use segment::names::precedes;
 use segment::refusal::DOCUMENT_LENGTHS_NOT_INCREASING;
-use segment::refusal::EMPTY_POSITION_LIST;
 use segment::refusal::EMPTY_TERM;
 use segment::refusal::POSITION_GAP_UNDERFLOW;
 use segment::refusal::POSITIONS_NOT_INCREASING;
-use segment::refusal::POSTING_ID_GAP_UNDERFLOW;
-use segment::refusal::POSTING_IDS_NOT_INCREASING;
 use segment::refusal::TERMS_NOT_INCREASING;
-use segment::refusal::UNKNOWN_DOCUMENT;
 use segment::refusal::WRITTEN_POSITION_EXCEEDS_LENGTH;
 use segment::refusal::invalid_layout;
 use segment::refusal::invalid_utf8;
 use utf8::characters::is_utf8;
-use write_lookup::lengths::KnownLength;
-use write_lookup::lengths::known_len;
 ghost use mathlib.Core.Path.{_≡_};
 ghost use mathlib.Core.Option.{none};
 ghost use lib.ListN.{length};
@@ -25,9 +18,7 @@ ghost use Rattle.common.specs.Slices.{was};
 ghost use Rattle.segment.specs.Metadata.{document};
 ghost use Rattle.segment.specs.Steps.{checked, earlier};
 ghost use Rattle.common.specs.Lists.{paired};
-ghost use Rattle.write_lookup.specs.Steps.{Rising-by-index};
-ghost use Rattle.calls.specs.Given.{posting};
-ghost use Rattle.calls.specs.Checks.{check-documents, position-checks, check-positions, check-posting, check-name as name-checks};
+ghost use Rattle.calls.specs.Checks.{check-documents, position-checks, check-name as name-checks};
 
 // The documents' ids rise.
 pub fn check_document_lengths(ids: &[u32], lengths: &[u32]) -> Checked
@@ -45,7 +36,7 @@ pub fn check_document_lengths(ids: &[u32], lengths: &[u32]) -> Checked
 }
 
 // One position, in document 01's order of tests: underflow, order, length. The first has no position before it.
-fn check_position(first: bool, previous: TokenPos, position: TokenPos, len: u32) -> Checked
+pub fn check_position(first: bool, previous: TokenPos, position: TokenPos, len: u32) -> Checked
     ensures { λ r. ⌜ r ≡ checked (position-checks len (earlier first (previous .0)) (position .0)) ⌝ }
 {
     if !first {
@@ -60,55 +51,6 @@ fn check_position(first: bool, previous: TokenPos, position: TokenPos, len: u32)
         return Checked::Refused(invalid_layout(WRITTEN_POSITION_EXCEEDS_LENGTH));
     }
     Checked::Passed
-}
-
-// The positions of a posting.
-fn check_positions_of(positions: &[u32], len: u32) -> Checked
-    ensures { λ r. ⌜ r ≡ checked (check-positions len none (was positions)) ⌝ }
-{
-    let mut previous = TokenPos(0);
-    let mut i: usize = 0;
-    while i < positions.len() {
-        let position = TokenPos(positions[i]);
-        if let Checked::Refused(x) = check_position(i == 0, previous, position, len) {
-            return Checked::Refused(x);
-        }
-        previous = position;
-        i += 1;
-    }
-    Checked::Passed
-}
-
-// One posting, in document 01's order of tests: unknown document, underflow, order, no positions, then each position. `near` is a hint
-// where the document's id is; it affects speed only.
-pub fn check_posting_of(
-    ids: &[u32],
-    lengths: &[u32],
-    first: bool,
-    previous: DocId,
-    doc: DocId,
-    near: usize,
-    positions: &[u32],
-) -> Checked
-    requires { ⌜ Rising-by-index (now ids) × (length (now ids) ≡ length (now lengths)) ⌝ }
-    ensures { λ r. ⌜ r ≡ checked (check-posting (paired document (was ids) (was lengths)) (earlier first (previous .0))
-        (posting (doc .0) (was positions))) ⌝ }
-{
-    let KnownLength::Known(len) = known_len(ids, lengths, doc, near) else {
-        return Checked::Refused(invalid_layout(UNKNOWN_DOCUMENT));
-    };
-    if !first {
-        if doc.0 < previous.0 {
-            return Checked::Refused(invalid_layout(POSTING_ID_GAP_UNDERFLOW));
-        }
-        if doc.0 == previous.0 {
-            return Checked::Refused(invalid_layout(POSTING_IDS_NOT_INCREASING));
-        }
-    }
-    if positions.len() == 0 {
-        return Checked::Refused(invalid_layout(EMPTY_POSITION_LIST));
-    }
-    check_positions_of(positions, len)
 }
 
 // A term's name, in document 01's order of tests: UTF-8, empty, order. The first has no name before it.

@@ -36,19 +36,19 @@ header-from : (documents terms : ℕ) (directory names metadata lists : List ℕ
 header-from documents terms directory names metadata lists s₁ s₂ s₃ s₄ c₁ c₂ c₃ c₄ e₁ e₂ e₃ e₄ f₁ f₂ f₃ f₄ =
     rw (e₁, e₂, e₃, e₄, f₁, f₂, f₃, f₄)
 
-module _ (documents terms : ℕ) (at : Offsets) (out : List ℕ) (room : Header-room out at) where
-  pub header-stored : {n₁ n₂ n₃ n₄ c₁ c₂ c₃ c₄ : ℕ} {o₁ o₂ o₃ o₄ : List ℕ}
+module _ (documents terms lists-crc : ℕ) (at : Offsets) (out : List ℕ) (room : Header-room out lists-crc at) where
+  pub header-stored : {n₁ n₂ n₃ n₄ c₁ c₂ c₃ : ℕ} {o₁ o₂ o₃ o₄ : List ℕ}
       → c₁ ≡ crc32Of (between 72 (at .names) out) → c₂ ≡ crc32Of (between (at .names) (at .metadata) out)
-      → c₃ ≡ crc32Of (between (at .metadata) (at .lists) out) → c₄ ≡ crc32Of (between (at .lists) (at .end) out)
+      → c₃ ≡ crc32Of (between (at .metadata) (at .lists) out)
       → Stored magic 0 out n₁ o₁ → Stored (four 4 2 0 documents terms) n₁ o₁ n₂ o₂
       → Stored (four 8 (at .names - 72) (at .metadata - at .names) (at .lists - at .metadata) (at .end - at .lists)) n₂ o₂ n₃ o₃
-      → Stored (four 4 c₁ c₂ c₃ c₄) n₃ o₃ n₄ o₄ → Header-stored documents terms at out o₄
-  header-stored f₁ f₂ f₃ f₄ a b c d = record {
+      → Stored (four 4 c₁ c₂ c₃ lists-crc) n₃ o₃ n₄ o₄ → Header-stored documents terms at out o₄
+  header-stored f₁ f₂ f₃ a b c d = record {
     left =
         stored-four a b c d .left
         ∙ ap (sets out 0) (header-from documents terms _ _ _ _ _ _ _ _ _ _ _ _
         (sym (part-length 72 (at .names) out (omega arith)))
         (sym (part-length (at .names) (at .metadata) out (omega arith)))
         (sym (part-length (at .metadata) (at .lists) out (omega arith)))
-        (sym (part-length (at .lists) (at .end) out (omega arith))) f₁ f₂ f₃ f₄);
+        (sym (part-length (at .lists) (at .end) out (omega arith))) f₁ f₂ f₃ (room .checksum));
   }

@@ -4,9 +4,13 @@ use mathlib.Core.Path.{_≡_}
 use mathlib.Core.List.{List, _++_}
 use lib.ListN.{length}
 use lib.Seq.{sets}
+use Rattle.crc32.specs.Crc32.{crc32Of}
+use Rattle.crc32.specs.Parts.{all-taken-in}
+use Rattle.common.specs.Stores.{Stored}
 use Rattle.segment.specs.Records.{between, header-size, entry-size}
 use Rattle.segment.specs.Written.{fixed, entry-bytes, header-bytes}
 use Rattle.write_frame.specs.declared.frame.Offsets.{Offsets}
+use Rattle.write_frame.specs.declared.frame.Past.{Past}
 
 -- four numbers of one width
 abbrev pub four : (n w x y z : ℕ) → List ℕ
@@ -23,12 +27,19 @@ pub record Entry-room (out : List ℕ) (at name name-length lists list end : ℕ
   pub inside : end ≤ length out
   pub small-name : name + name-length < 2 ^ 32
 
-pub record Header-room (out : List ℕ) (at : Offsets) : Type 0 where
+-- the entry, and the remainder of the lists' checksum carried on over its list
+pub record Entry-stored (out : List ℕ) (at name name-length lists list end df run : ℕ) (r : Past) (out′ : List ℕ) : Type 0 where
+  pub stored : Stored (entry-of-list out name name-length lists list end df) at out (r .entry) out′
+  pub carried : r .run ≡ all-taken-in run (between list end out)
+
+-- the sections lie one behind another, and the lists' checksum is known
+pub record Header-room (out : List ℕ) (lists-crc : ℕ) (at : Offsets) : Type 0 where
   pub directory : header-size ≤ at .names
   pub names : at .names ≤ at .metadata
   pub metadata : at .metadata ≤ at .lists
   pub lists : at .lists ≤ at .end
   pub end : at .end ≤ length out
+  pub checksum : lists-crc ≡ crc32Of (between (at .lists) (at .end) out)
 
 pub record Header-stored (documents terms : ℕ) (at : Offsets) (out out′ : List ℕ) : Type 0 where
   pub left : out′ ≡ sets out 0

@@ -5,10 +5,10 @@ use crate::numbers::put_four_u64;
 use crate::numbers::put_u32;
 use crate::numbers::put_u64;
 use crc32::checksum::crc32;
+use crc32::checksum::crc32_and_on;
 use segment::fixed::HEADER_SIZE;
 ghost use Rattle.common.specs.Slices.{was, left};
-ghost use Rattle.common.specs.Stores.{Stored};
-ghost use Rattle.write_frame.specs.Steps.{entry-of-list, Entry-room, Header-room, Header-stored};
+ghost use Rattle.write_frame.specs.Steps.{Entry-room, Entry-stored, Header-room, Header-stored};
 
 // The offsets where the sections start, and where the segment ends. The directory starts at 72.
 pub struct Offsets {
@@ -18,7 +18,13 @@ pub struct Offsets {
     pub end: usize,
 }
 
-// A directory entry for a list that the slice already holds, from `list` to `end`.
+// The offset past an entry, and the remainder of the lists' checksum past its list.
+pub struct Past {
+    pub entry: usize,
+    pub run: u32,
+}
+
+// A directory entry for a list that the slice already holds, from `list` to `end`. `run` is the remainder of the lists before it.
 pub fn put_entry(
     out: &mut [u8],
     at: usize,
@@ -28,22 +34,27 @@ pub fn put_entry(
     list: usize,
     end: usize,
     df: u32,
-) -> usize
+    run: u32,
+) -> Past
     requires { ⌜ Entry-room (now out) at name «name_len» lists list end ⌝ }
-    ensures { λ r. ⌜ Stored (entry-of-list (was out) name «name_len» lists list end df) at (was out) r (left out) ⌝ }
+    ensures { λ r. ⌜ Entry-stored (was out) at name «name_len» lists list end df run r (left out) ⌝ }
 {
-    let checksum = crc32(&out[list..end]);
+    let both = crc32_and_on(&out[list..end], run);
     let next = put_u32(out, at, name as u32);
     let next = put_u32(out, next, name_len as u32);
     let next = put_u64(out, next, list - lists);
     let next = put_u64(out, next, end - list);
     let next = put_u32(out, next, df);
-    put_u32(out, next, checksum)
+    let next = put_u32(out, next, both.own);
+    Past {
+        entry: next,
+        run: both.run,
+    }
 }
 
-// The header, over sections that the slice already holds.
-pub fn put_header(out: &mut [u8], documents: u32, terms: u32, at: Offsets)
-    requires { ⌜ Header-room (now out) at ⌝ }
+// The header, over sections that the slice already holds. The lists' checksum is given: it was taken as they were stored.
+pub fn put_header(out: &mut [u8], documents: u32, terms: u32, lists_crc: u32, at: Offsets)
+    requires { ⌜ Header-room (now out) «lists_crc» at ⌝ }
     ensures { λ r. ⌜ Header-stored documents terms at (was out) (left out) ⌝ }
 {
     let names = at.names;
@@ -53,7 +64,6 @@ pub fn put_header(out: &mut [u8], documents: u32, terms: u32, at: Offsets)
     let directory_crc = crc32(&out[HEADER_SIZE..names]);
     let names_crc = crc32(&out[names..metadata]);
     let metadata_crc = crc32(&out[metadata..lists]);
-    let lists_crc = crc32(&out[lists..end]);
     let counts = put_bytes(out, 0, b"PSTP0001");
     let lengths = put_four_u32(out, counts, 2, 0, documents, terms);
     let checksums = put_four_u64(

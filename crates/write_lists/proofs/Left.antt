@@ -9,12 +9,12 @@ use native.Mathlib.Omega.{arith}
 use lib.ListN.{length, drop, getD}
 use Rattle.leb128.specs.Leb128.{encoded}
 use Rattle.common.proofs.Loops.{drop-step, drop-end}
-use Rattle.segment.specs.Records.{Document, Posting, between}
+use Rattle.segment.specs.Records.{Document, between}
 use Rattle.segment.specs.Metadata.{document}
 use Rattle.common.specs.Lists.{paired}
-use Rattle.segment.specs.Written.{metadata-bytes, position-bytes, posting-bytes, postings-bytes}
-use Rattle.calls.specs.Given.{postings-in}
-use Rattle.write_check_all.proofs.Walking.{part-length, postings-step}
+use Rattle.segment.specs.Written.{metadata-bytes, position-bytes, posting-bytes}
+use Rattle.write_check_all.proofs.Walking.{part-length}
+use Rattle.write_check_all.proofs.Left.{postings-left, postings-left-next}
 
 -- ---- document metadata
 
@@ -40,53 +40,15 @@ module _ (ids lengths : List ℕ) where
   unfolding metadata-bytes
   metadata-end previous i h = rw (drop-end ids i h)
 
--- ---- positions
+-- ---- postings, down to the numbers that are stored
 
-abbrev pub positions-left : (positions : List ℕ) (previous i : ℕ) → List ℕ
-positions-left positions previous i = position-bytes (some previous) (drop i positions)
-
-pub positions-whole : (positions : List ℕ) → positions-left positions 0 0 ≡ position-bytes none positions
-unfolding position-bytes
-positions-whole [] = refl
-positions-whole (p ∷ ps) = rw (sub-zero p)
-
-module _ (positions : List ℕ) where
-  pub positions-next : (previous i : ℕ) → i < length positions
-      → positions-left positions previous i ≡ encoded (getD positions i 0 - previous)
-      ++ positions-left positions (getD positions i 0) (i + 1)
-  unfolding position-bytes
-  positions-next previous i h = rw (drop-step positions i 0 h)
-
-  pub positions-end : (previous i : ℕ) → length positions ≤ i → positions-left positions previous i ≡ []
-  unfolding position-bytes
-  positions-end previous i h = rw (drop-end positions i h)
-
--- ---- postings
-
-abbrev pub postings-left : (ids counts positions : List ℕ) (previous from i : ℕ) → List ℕ
-postings-left ids counts positions previous from i =
-    postings-bytes (some previous) (postings-in (drop i ids) (drop i counts) (drop from positions))
-
-postings-zero : (ps : List Posting) → postings-bytes (some 0) ps ≡ postings-bytes none ps
-unfolding postings-bytes posting-bytes
-postings-zero [] = refl
-postings-zero (p ∷ ps) = rw (sub-zero (p .doc))
-
-module _ (ids counts positions : List ℕ) where
-  pub postings-whole : postings-left ids counts positions 0 0 0 ≡ postings-bytes none (postings-in ids counts positions)
-  postings-whole = postings-zero (postings-in ids counts positions)
-
-  pub postings-next : (previous from to i : ℕ) → i < length ids → length ids ≡ length counts → to ≡ from + getD counts i 0
-      → to ≤ length positions
-      → postings-left ids counts positions previous from i
-      ≡ encoded (getD ids i 0 - previous)
-      ++ (encoded (getD counts i 0)
-      ++ (position-bytes none (between from to positions) ++ postings-left ids counts positions (getD ids i 0) to (i + 1)))
-  unfolding postings-bytes posting-bytes
-  postings-next previous from to i h e is k =
-      let n : length (between from to positions) ≡ getD counts i 0 = part-length from to positions k ∙ omega arith in
-      rw (postings-step ids counts positions i from h (omega arith), ← is, n) (simp append-assoc)
-
-  pub postings-end : (previous from i : ℕ) → length ids ≤ i → postings-left ids counts positions previous from i ≡ []
-  unfolding postings-bytes
-  postings-end previous from i h = rw (drop-end ids i h)
+pub postings-next : (ids counts positions : List ℕ) (previous from to i : ℕ) → i < length ids → length ids ≡ length counts
+    → to ≡ from + getD counts i 0 → to ≤ length positions
+    → postings-left ids counts positions previous from i
+    ≡ encoded (getD ids i 0 - previous)
+    ++ (encoded (getD counts i 0)
+    ++ (position-bytes none (between from to positions) ++ postings-left ids counts positions (getD ids i 0) to (i + 1)))
+unfolding posting-bytes
+postings-next ids counts positions previous from to i h e is k =
+    let n : length (between from to positions) ≡ getD counts i 0 = part-length from to positions k ∙ omega arith in
+    rw (postings-left-next ids counts positions previous from i h e refl, ← is, n) (simp append-assoc)

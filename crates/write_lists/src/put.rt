@@ -1,9 +1,10 @@
 // Metadata and posting lists stored from an offset on. Each function answers the offset past what it stored.
 use common::widths::long;
 use leb128::varint::encode_u32;
+use write_checks::measure::gap_from;
 ghost use mathlib.Core.Path.{_≡_};
 ghost use mathlib.Core.Option.{none};
-ghost use Prim.Native.Nat.{_+_, _-_, _≤_};
+ghost use Prim.Native.Nat.{_+_, _≤_};
 ghost use lib.ListN.{length};
 ghost use Rattle.common.specs.Slices.{was, left};
 ghost use Rattle.segment.specs.Metadata.{document};
@@ -11,17 +12,6 @@ ghost use Rattle.common.specs.Lists.{paired, total};
 ghost use Rattle.segment.specs.Written.{metadata-bytes, position-bytes, postings-bytes};
 ghost use Rattle.calls.specs.Given.{postings-in};
 ghost use Rattle.common.specs.Stores.{Stored};
-
-// The gap from the value before. It serves document ids and token positions alike, so both are plain u32 here. What was checked rises, so
-// the test is never taken; it saves every caller the proof of that.
-pub fn gap_from(previous: u32, value: u32) -> u32
-    ensures { λ r. ⌜ r ≡ value - previous ⌝ }
-{
-    if value < previous {
-        return 0;
-    }
-    value - previous
-}
 
 // The metadata.
 pub fn put_metadata(ids: &[u32], lengths: &[u32], out: &mut [u8], at: usize) -> usize

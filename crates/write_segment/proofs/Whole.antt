@@ -8,6 +8,7 @@ use native.Mathlib.Omega.{arith}
 use borrow.Author.Tests.{le-leb, lt-leb}
 use lib.ListN.{length, drop, length-append}
 use lib.Seq.{sets, length-sets}
+use Rattle.crc32.specs.Crc32.{crc32Of}
 use Rattle.common.proofs.Sets.{sets-append, sets-front}
 use Rattle.segment.specs.Records.{Document, Term, between}
 use Rattle.segment.specs.declared.refusal.Refusal.{Refusal}
@@ -24,13 +25,13 @@ use Rattle.segment.specs.Written.{directory-bytes, name-bytes, metadata-bytes, 
 use Rattle.calls.specs.Acceptance.{Shape}
 use Rattle.common.specs.Stores.{Stored}
 use Rattle.write_segment.specs.Steps.{Terms-stored, Segment-room, Segment-stored}
-use Rattle.write_frame.specs.Steps.{Header-stored}
+use Rattle.write_frame.specs.Steps.{Header-room, Header-stored}
 use Rattle.write_segment.specs.Promise.{Wrote}
 use Rattle.segment.proofs.Accepted.{passed-ok, refused-is}
 use Rattle.calls.proofs.Passing.{shaped-gives}
 use Rattle.calls.proofs.Flat.{text-is, documents-count, terms-count}
 use Rattle.calls.proofs.Lengths.{directory-length}
-use Rattle.common.proofs.Stores.{stored-append}
+use Rattle.common.proofs.Stores.{stored-append, stored-length}
 use Rattle.write_segment.proofs.Sets.{sets-comm, between-stored, between-before, between-after}
 
 four-lengths : (a b c d : List ℕ) → length (a ++ (b ++ (c ++ d))) ≡ length a + (length b + (length c + length d))
@@ -79,7 +80,7 @@ module _ (out directory names metadata lists : List ℕ) (n m p e : ℕ) where
         between-stored with-names m metadata (k .lists-at)
         (omega (arith, length-sets out p lists, length-sets with-lists 72 directory, length-sets with-directory n names))
 
-    lists-there : between p e laid ≡ lists
+    pub lists-there : between p e laid ≡ lists
     lists-there =
         between-after with-names m metadata p e (omega arith)
         ∙ between-after with-directory n names p e (omega arith)
@@ -154,13 +155,36 @@ module _ (l : Lists) (out : List ℕ) (at : Offsets) (room : Segment-room l out 
     room = room .room;
   }
 
-  module _ {o₁ o₂ o₃ : List ℕ} {n₁ n₂ : ℕ}
-      (a : Terms-stored l (at .lists) out o₁) (b : Stored (l .text) (at .names) o₁ n₁ o₂)
+  module _ {o₁ o₂ o₃ : List ℕ} {n₁ n₂ crc : ℕ}
+      (a : Terms-stored l (at .lists) out crc o₁) (b : Stored (l .text) (at .names) o₁ n₁ o₂)
       (c : Stored metadata-of (at .metadata) o₂ n₂ o₃) where
     is-laid : o₃ ≡ segment-laid
     is-laid =
         c .left ∙ ap (λ (r : List ℕ). sets r (at .metadata) metadata-of)
         (b .left ∙ ap (λ (r : List ℕ). sets r (at .names) (l .text)) (a .left))
+
+    -- the header may be made
+    pub header-room : Header-room o₃ crc at
+    header-room = record {
+      directory = omega (arith, room .names);
+      names = omega (arith, room .metadata);
+      metadata = omega (arith, room .lists);
+      lists = omega (arith, room .end);
+      end = omega (
+        arith,
+        room .room,
+        stored-length c,
+        stored-length b,
+        ap length (a .left),
+        length-sets (sets out (at .lists) lists-of) 72 directory-of,
+        length-sets out (at .lists) lists-of,
+      );
+      checksum =
+          a .checksum
+          ∙ ap crc32Of
+          (sym (ap (between (at .lists) (at .end)) is-laid
+          ∙ lists-there out directory-of (l .text) metadata-of lists-of (at .names) (at .metadata) (at .lists) (at .end) placed));
+    }
 
     pub segment-stored : {o₄ : List ℕ} → Header-stored (length (l .ids)) (length (l .ends)) at o₃ o₄ → Segment-stored l out o₄
     unfolding segment-bytes

@@ -5,6 +5,7 @@ use mathlib.Core.List.{List, _++_}
 use lib.ListN.{length, drop}
 use lib.Seq.{sets}
 use mathlib.Core.Option.{none}
+use Rattle.crc32.specs.Crc32.{crc32Of}
 use Rattle.segment.specs.Records.{header-size, entry-size}
 use Rattle.write_frame.specs.declared.frame.Offsets.{Offsets}
 use Rattle.calls.specs.Given.{Lists, given}
@@ -17,8 +18,9 @@ pub record Terms-room (l : Lists) (out : List ℕ) (at : ℕ) : Type 0 where
   pub directory : header-size + entry-size * length (l .ends) ≤ at
   pub room : at + length (lists-bytes (given l .terms)) ≤ length out
 
--- the lists from their offset on, and the directory at 72
-pub record Terms-stored (l : Lists) (at : ℕ) (out out′ : List ℕ) : Type 0 where
+-- the lists from their offset on, and the directory at 72; answered is the lists' checksum
+pub record Terms-stored (l : Lists) (at : ℕ) (out : List ℕ) (r : ℕ) (out′ : List ℕ) : Type 0 where
+  pub checksum : r ≡ crc32Of (lists-bytes (given l .terms))
   pub left : out′ ≡ sets (sets out at (lists-bytes (given l .terms))) header-size (directory-bytes 0 0 (given l .terms))
 
 -- the offsets are the sections', and the slice has room for them

@@ -6,17 +6,17 @@ use Rattle.write_frame.proofs.Framed.{entry-stored}
 use Rattle.write_frame.proofs.frame.put_entry.Statement.{statement}
 use Rattle.write_frame.proofs.frame.put_entry.Tie as tie
 
-sub-crc32 : tie.Need-sub-crc32
-sub-crc32 c = search needs
+sub-crc32-and-on : tie.Need-sub-crc32-and-on
+sub-crc32-and-on c = search needs
 
-part-crc32-start : tie.Need-part-crc32-start
-part-crc32-start c = search needs
+part-crc32-and-on-start : tie.Need-part-crc32-and-on-start
+part-crc32-and-on-start c = search needs
 
-part-crc32-end : tie.Need-part-crc32-end
-part-crc32-end c = search needs
+part-crc32-and-on-end : tie.Need-part-crc32-and-on-end
+part-crc32-and-on-end c = search needs
 
-crc32-requires : tie.Need-crc32-requires
-crc32-requires c κs = search needs
+crc32-and-on-requires : tie.Need-crc32-and-on-requires
+crc32-and-on-requires c κs = search needs
 
 cast-put-u32 : tie.Need-cast-put-u32
 cast-put-u32 c = search needs
@@ -53,25 +53,31 @@ same-length c = search needs
 
 returns : tie.Need-returns
 returns c =
-    let fifth = c .before .before .before .before .before .before in
+    let sixth = c in
+    let fifth = sixth .before .before .before .before .before .before in
     let fourth = fifth .before .before .before .before in
     let third = fourth .before .before .before .before in
     let second = third .before .before .before .before in
     let first = second .before .before .before .before in
     let a = first .before .before .before .before .before .before .args in
-    entry-stored (now (a .out)) (a .at) (a .name) (a .name-len) (a .lists) (a .list) (a .end) (a .df)
-    (first .before .before .before .crc32-arg .given .1) (first .before .before .crc32 .ensures)
-    (first .put-u32 .ensures) (second .put-u322 .ensures) (third .put-u64 .ensures) (fourth .put-u642 .ensures)
-    (fifth .put-u323 .ensures) (c .before .before .put-u324 .ensures)
+    let both = first .before .before .crc32-and-on .ensures in
+    record {
+      stored =
+          entry-stored (now (a .out)) (a .at) (a .name) (a .name-len) (a .lists) (a .list) (a .end) (a .df)
+          (first .before .before .before .crc32-and-on-arg .given .1) (both .own)
+          (first .put-u32 .ensures) (second .put-u322 .ensures) (third .put-u64 .ensures) (fourth .put-u642 .ensures)
+          (fifth .put-u323 .ensures) (sixth .before .before .put-u324 .ensures);
+      carried = both .run;
+    }
 
 pub put-entry-spec : {M : Type 1} → statement M
 put-entry-spec =
     tie.close
     (tie.spec
-    sub-crc32
-    part-crc32-start
-    part-crc32-end
-    crc32-requires
+    sub-crc32-and-on
+    part-crc32-and-on-start
+    part-crc32-and-on-end
+    crc32-and-on-requires
     cast-put-u32
     put-u32-requires
     cast-put-u32-2

@@ -1,4 +1,4 @@
--- The checksums are taken before anything is stored, so they are those of the sections.
+-- The checksums are taken before anything is stored, so they are those of the sections; the lists' is given.
 -- Assumes nothing.
 use denote.Ref.{now}
 use borrow.Author.Needs.{needs}
@@ -42,18 +42,6 @@ part-crc32-end-3 c = search needs
 crc32-requires-3 : tie.Need-crc32-requires-3
 crc32-requires-3 c κs = search needs
 
-sub-crc32-4 : tie.Need-sub-crc32-4
-sub-crc32-4 c = search needs
-
-part-crc32-start-4 : tie.Need-part-crc32-start-4
-part-crc32-start-4 c = search needs
-
-part-crc32-end-4 : tie.Need-part-crc32-end-4
-part-crc32-end-4 c = search needs
-
-crc32-requires-4 : tie.Need-crc32-requires-4
-crc32-requires-4 c κs = search needs
-
 slice-aggregate-put-bytes : tie.Need-slice-aggregate-put-bytes
 slice-aggregate-put-bytes c = search needs
 
@@ -89,14 +77,13 @@ returns c =
     let lengths = c .before .before .before .before .before .before in
     let counts = lengths .before .before .before .before in
     let magic = counts .before .before .before .before in
-    let fourth = magic .before .before .before in
-    let third = fourth .before .before .before in
+    let third = magic .before .before .before in
     let second = third .before .before .before in
     let first = second .before .before .before in
     let start = first .before .before .before .before in
     let a = start .args in
-    header-stored (a .documents) (a .terms) (a .at) (now (a .out)) (start .pre)
-    (first .crc32 .ensures) (second .crc322 .ensures) (third .crc323 .ensures) (fourth .crc324 .ensures)
+    header-stored (a .documents) (a .terms) (a .lists-crc) (a .at) (now (a .out)) (start .pre)
+    (first .crc32 .ensures) (second .crc322 .ensures) (third .crc323 .ensures)
     (magic .put-bytes .ensures) (counts .put-four-u32 .ensures) (lengths .put-four-u64 .ensures) (c .before .before .put-four-u322 .ensures)
 
 pub put-header-spec : {M : Type 1} → statement M
@@ -115,10 +102,6 @@ put-header-spec =
     part-crc32-start-3
     part-crc32-end-3
     crc32-requires-3
-    sub-crc32-4
-    part-crc32-start-4
-    part-crc32-end-4
-    crc32-requires-4
     slice-aggregate-put-bytes
     put-bytes-requires
     put-four-u32-requires

@@ -10,7 +10,7 @@ use borrow.Author.Needs.{needs}
 use Rattle.leb128.specs.Leb128.{encoded}
 use Rattle.segment.specs.Written.{position-bytes}
 use Rattle.common.proofs.Stores.{To-store, To-store-parts, to-start, to-room, to-next, to-length, to-end}
-use Rattle.write_lists.proofs.Left.{positions-left, positions-whole, positions-next, positions-end}
+use Rattle.write_checks.proofs.Measuring.{positions-left, positions-whole, positions-left-next, positions-left-end}
 use Rattle.write_lists.proofs.put.put_positions.Statement.{statement}
 use Rattle.write_lists.proofs.put.put_positions.Tie as tie
 
@@ -45,7 +45,7 @@ turn : (c : tie.After-gap-from Inv-loop μ-loop)
 turn c =
     let l = c .before .before .before .loop in
     let positions = now (c .before .before .before .before .before .before .args .positions) in
-    record { all = rw (c .gap-from .ensures) (rw (positions-next positions (l .previous) (l .i) (omega arith)) at (l .inv .1)) }
+    record { all = rw (c .gap-from .ensures) (rw (positions-left-next positions (l .previous) (l .i) (omega arith)) at (l .inv .1)) }
 
 encode-u32-requires : tie.Need-encode-u32-requires Inv-loop μ-loop
 encode-u32-requires c κs = to-room (turn (c .before))
@@ -65,7 +65,8 @@ same-length c = to-length (c .before .loop .inv .1)
 returns : tie.Need-returns Inv-loop μ-loop
 returns c =
     let l = c .before .loop in
-    to-end (rw (positions-end (now (c .before .before .before .before .args .positions)) (l .previous) (l .i) (omega arith)) at (l .inv .1))
+    let positions = now (c .before .before .before .before .args .positions) in
+    to-end (rw (positions-left-end positions (l .previous) (l .i) (omega arith)) at (l .inv .1))
 
 pub put-positions-spec : {M : Type 1} → statement M
 put-positions-spec =

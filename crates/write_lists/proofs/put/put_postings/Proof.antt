@@ -14,7 +14,8 @@ use Rattle.segment.specs.Written.{position-bytes, postings-bytes}
 use Rattle.calls.specs.Given.{postings-in}
 use Rattle.common.proofs.Stores.{To-store, To-store-parts, to-start, to-room, to-next, to-length, to-end}
 use Rattle.calls.proofs.Parts.{total-step}
-use Rattle.write_lists.proofs.Left.{postings-left, postings-whole, postings-next, postings-end}
+use Rattle.write_check_all.proofs.Left.{postings-left, postings-whole, postings-left-end}
+use Rattle.write_lists.proofs.Left.{postings-next}
 use Rattle.write_lists.proofs.put.put_postings.Statement.{statement}
 use Rattle.write_lists.proofs.put.put_postings.Tie as tie
 
@@ -149,7 +150,7 @@ returns c =
     let l = c .before .loop in
     let a = c .before .before .before .before .before .before .args in
     to-end
-    (rw (postings-end (now (a .posting-ids)) (now (a .counts)) (now (a .positions)) (l .previous) (l .from) (l .i) (omega arith)) at
+    (rw (postings-left-end (now (a .posting-ids)) (now (a .counts)) (now (a .positions)) (l .previous) (l .from) (l .i) (omega arith)) at
     (l .inv .2))
 
 pub put-postings-spec : {M : Type 1} → statement M

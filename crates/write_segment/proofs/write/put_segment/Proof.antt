@@ -5,7 +5,7 @@ use denote.Ref.{now}
 use borrow.Author.Needs.{needs}
 use Rattle.calls.specs.Given.{Lists, given, lists}
 use Rattle.calls.proofs.Passing.{small-gives, shaped-gives}
-use Rattle.write_segment.proofs.Whole.{segment-stored}
+use Rattle.write_segment.proofs.Whole.{header-room, segment-stored}
 use Rattle.write_segment.proofs.write.put_segment.Statement.{statement}
 use Rattle.write_segment.proofs.write.put_segment.Tie as tie
 
@@ -41,7 +41,14 @@ cast-put-header-2 c =
     omega (arith, small-gives (given-lists a) (a .pre .checkable .small) .ends)
 
 put-header-requires : tie.Need-put-header-requires
-put-header-requires c κs = search needs
+unfolding given
+put-header-requires c κs =
+    let m = c .before .before .before in
+    let n = m .before .before .before .before in
+    let t = n .before .before .before .before in
+    let a = t .before .before .before .before .before .before .before .before .before .before .before in
+    header-room (given-lists a) (now (a .args .out)) (a .args .at) (a .pre) (t .put-terms .ensures) (n .put-bytes .ensures)
+    (m .put-metadata .ensures)
 
 same-length : tie.Need-same-length
 same-length c = search needs

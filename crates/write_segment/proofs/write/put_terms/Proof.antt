@@ -17,11 +17,13 @@ use Rattle.write_segment.proofs.write.put_terms.Statement.{statement}
 use Rattle.write_segment.proofs.write.put_terms.Tie as tie
 
 abbrev Inv-loop : tie.InvT-loop
-Inv-loop ids lengths text ends posting-counts posting-ids position-counts positions out₀ lists-at walk₀ list₀ entry₀ out walk list entry =
-    Terms-left (lists ids lengths text ends posting-counts posting-ids position-counts positions) lists-at out₀ out walk list entry
+Inv-loop ids lengths text ends posting-counts posting-ids position-counts positions out₀ lists-at walk₀ list₀ entry₀ run₀
+    out walk list entry run =
+    Terms-left (lists ids lengths text ends posting-counts posting-ids position-counts positions) lists-at out₀ out walk list entry run
 
 abbrev μ-loop : tie.MeasureT-loop
-μ-loop ids lengths text ends posting-counts posting-ids position-counts positions out₀ lists-at walk₀ list₀ entry₀ out walk list entry =
+μ-loop ids lengths text ends posting-counts posting-ids position-counts positions out₀ lists-at walk₀ list₀ entry₀ run₀
+    out walk list entry run =
     length ends - walk .term
 
 -- at a term: the lists, and what is known of them and of the walk
@@ -125,8 +127,8 @@ put-postings-requires c κs =
       ids-match g k w (l .loop .inv .fits) (t .if1 .taken) is,
       positions-enough g k w (l .loop .inv .fits) (t .if1 .taken) is,
       rw (postings-given g k w (l .loop .inv .fits) (t .if1 .taken) is)
-          (list-room g (a .args .lists-at) (now (a .args .out)) (a .pre) w (l .loop .out) (l .loop .list) (l .loop .entry) (l .loop .inv)
-          (t .if1 .taken)),
+          (list-room g (a .args .lists-at) (now (a .args .out)) (a .pre) w (l .loop .out) (l .loop .list) (l .loop .entry) (l .loop .run)
+          (l .loop .inv) (t .if1 .taken)),
     )
 
 mul-long : tie.Need-mul-long Inv-loop μ-loop
@@ -150,7 +152,7 @@ put-entry-requires c κs =
     let l = t .before .before in
     let a = entry l in
     entry-room (given-lists a) (a .args .lists-at) (now (a .args .out)) (a .pre) (l .loop .walk) (l .loop .out) (l .loop .list)
-    (l .loop .entry)
+    (l .loop .entry) (l .loop .run)
     (l .loop .inv) (t .if1 .taken) (listed p) (c .before .long2 .ensures)
 
 next-requires : tie.Need-next-requires Inv-loop μ-loop
@@ -172,22 +174,25 @@ loop-again c =
     let a = entry l in
     rw (c .next .ensures)
     (terms-next (given-lists a) (a .args .lists-at) (now (a .args .out)) (a .pre) (l .loop .walk) (l .loop .out) (l .loop .list)
-    (l .loop .entry)
+    (l .loop .entry) (l .loop .run)
     (l .loop .inv) (t .if1 .taken) (listed p) (e .before .before .long2 .ensures) (e .put-entry .ensures))
+
+finish-requires : tie.Need-finish-requires Inv-loop μ-loop
+finish-requires c κs = search needs
 
 same-length : tie.Need-same-length Inv-loop μ-loop
 same-length c =
-    let l = c .before .before in
+    let l = c .before .before .before in
     let a = entry l in
     terms-length (given-lists a) (a .args .lists-at) (now (a .args .out)) (a .pre) (l .loop .walk) (l .loop .out) (l .loop .list)
-    (l .loop .entry) (l .loop .inv)
+    (l .loop .entry) (l .loop .run) (l .loop .inv)
 
 returns : tie.Need-returns Inv-loop μ-loop
 returns c =
-    let l = c .before .before in
+    let l = c .before .before .before in
     let a = entry l in
     terms-done (given-lists a) (a .args .lists-at) (now (a .args .out)) (a .pre) (l .loop .walk) (l .loop .out) (l .loop .list)
-    (l .loop .entry) (l .loop .inv) (c .if1 .left)
+    (l .loop .entry) (l .loop .run) (l .loop .inv) (c .before .if1 .left) (c .finish .ensures)
 
 pub put-terms-spec : {M : Type 1} → statement M
 put-terms-spec =
@@ -222,5 +227,6 @@ put-terms-spec =
     next-requires
     loop-less
     loop-again
+    finish-requires
     same-length
     returns)

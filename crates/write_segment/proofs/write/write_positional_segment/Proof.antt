@@ -1,9 +1,8 @@
 -- The offsets are those of the definition, since what was measured has its length.
 -- Assumes nothing.
-use mathlib.Core.Path.{_≡_, refl, sym, ap, _∙_}
+use mathlib.Core.Path.{_≡_, refl, sym, _∙_}
 use Prim.Native.Nat.{_+_, _*_, _≤_}
 use native.Mathlib.Omega.{arith}
-use mathlib.Core.List.{List}
 use mathlib.Core.Option.{none}
 use lib.ListN.{length}
 use denote.Ref.{now}
@@ -15,11 +14,10 @@ use Rattle.calls.specs.Checks.{check-lists}
 use Rattle.calls.specs.Acceptance.{Small, Shape}
 use Rattle.write_check_all.specs.Steps.{Checkable}
 use Rattle.calls.proofs.Passing.{small-gives, shaped-gives}
-use Rattle.write_check_all.proofs.Walking.{terms-start}
+use Rattle.write_checks.proofs.Measuring.{measured-refused, measured-passed}
 use Rattle.write_check_all.proofs.Lists-checked.{passed-checkable}
 use Rattle.calls.proofs.Lengths.{flat-metadata-size, lists-small}
 use Rattle.write_segment.proofs.Whole.{segment-length, wrote-refusal, wrote-no-room, wrote-all}
-use Rattle.segment.specs.Records.{Term}
 use Rattle.segment.specs.Written.{metadata-bytes, lists-bytes, segment-bytes}
 use Rattle.write_segment.proofs.write.write_positional_segment.Statement.{statement}
 use Rattle.write_segment.proofs.write.write_positional_segment.Tie as tie
@@ -30,24 +28,33 @@ given-lists c =
     lists (now (a .ids)) (now (a .lengths)) (now (a .text)) (now (a .ends)) (now (a .posting-counts)) (now (a .posting-ids))
     (now (a .position-counts)) (now (a .positions))
 
-abbrev entry : tie.After-enum-told → tie.Start
-entry c = c .before .before .before .before .before .before .before .before .before .before .before .before
+abbrev entry : tie.After-known-told → tie.Start
+entry c = c .before .before .before .before .before .before .before .before .before .before .before .before .before
 
--- the lists passed the check
-passed : (c : tie.After-enum-told) → Passed ≡ checked (check-lists (given-lists (entry c)))
-passed c = sym (c .enum-told .given .1) ∙ c .before .before .check-lists .ensures
+-- the lists passed the check, and what was measured is what the definition has
+sized : (c : tie.After-known-told) → let l = given-lists (entry c) in
+    (Passed ≡ checked (check-lists l)) × (c .before .size .given .0 .0 ≡ length (lists-bytes (given l .terms)))
+sized c =
+    measured-passed (check-lists (given-lists (entry c))) _
+    (sym (c .before .size .given .1) ∙ c .before .before .before .measure-lists .ensures)
 
-checkable : (c : tie.After-enum-told) → Checkable (given-lists (entry c))
+passed : (c : tie.After-known-told) → Passed ≡ checked (check-lists (given-lists (entry c)))
+passed c = sized c .0
+
+checkable : (c : tie.After-known-told) → Checkable (given-lists (entry c))
 checkable c = passed-checkable (given-lists (entry c)) (passed c)
 
-few : (c : tie.After-enum-told) → Small (given-lists (entry c))
+few : (c : tie.After-known-told) → Small (given-lists (entry c))
 few c = small-gives (given-lists (entry c)) (checkable c .small)
 
-shape : (c : tie.After-enum-told) → Shape (given-lists (entry c))
+shape : (c : tie.After-known-told) → Shape (given-lists (entry c))
 shape c = shaped-gives (given-lists (entry c)) (checkable c .shaped)
 
-check-lists-requires : tie.Need-check-lists-requires
-check-lists-requires c κs = search needs
+measure-lists-requires : tie.Need-measure-lists-requires
+measure-lists-requires c κs = search needs
+
+enum-known-size : tie.Need-enum-known-size
+enum-known-size c = search needs
 
 enum-known-x : tie.Need-enum-known-x
 enum-known-x c = search needs
@@ -56,10 +63,8 @@ returns : tie.Need-returns
 returns c =
     let l = c .before .before .before in
     let a = l .before .before .before .before .before .before .before .before .before .before in
-    wrote-refusal (given-lists a) (now (a .args .out)) (sym (c .before .x .given .1) ∙ l .check-lists .ensures)
-
-enum-told : tie.Need-enum-told
-enum-told c = search needs
+    wrote-refusal (given-lists a) (now (a .args .out))
+    (measured-refused (check-lists (given-lists a)) _ (sym (c .before .x .given .1) ∙ l .measure-lists .ensures))
 
 mul-names : tie.Need-mul-names
 mul-names c = let s = few c in omega arith
@@ -84,33 +89,26 @@ metadata-low c =
     let a = entry (c .before) .args in
     omega (arith, c .metadata-len .ensures, flat-metadata-size (now (a .ids)) (now (a .lengths)), few (c .before) .ids)
 
-lists-are : (c : tie.After-lists-len) → c .lists-len .result ≡ length (lists-bytes (given (given-lists (entry (c .before .before))) .terms))
-lists-are c = c .lists-len .ensures ∙ ap (λ (ts : List Term). length (lists-bytes ts))
-    (terms-start (given-lists (entry (c .before .before))))
-
-end-is : (c : tie.After-lists-len)
-    → let a = entry (c .before .before) in
-    72 + length (now (a .args .ends)) * 32 + length (now (a .args .text)) + c .before .metadata-len .result + c .lists-len .result
+end-is : (c : tie.After-metadata-len)
+    → let a = entry (c .before) in
+    72 + length (now (a .args .ends)) * 32 + length (now (a .args .text)) + c .metadata-len .result + c .before .before .size .given .0 .0
     ≡ length (segment-bytes (given (given-lists a)))
 end-is c =
     omega (
       arith,
-      segment-length (given-lists (entry (c .before .before))) (shape (c .before .before)),
-      metadata-is (c .before),
-      lists-are c,
+      segment-length (given-lists (entry (c .before))) (shape (c .before)),
+      metadata-is c,
+      sized (c .before) .1,
     )
 
 add-lists : tie.Need-add-lists
 add-lists c = let s = few (c .before) in omega (arith, metadata-low c)
 
-lists-len-requires : tie.Need-lists-len-requires
-lists-len-requires c κs = checkable (c .before)
-
 add-end : tie.Need-add-end
 add-end c =
-    let d = c .before .before in
+    let d = c .before in
     let s = few d in
-    omega (arith, metadata-low (c .before), lists-are c, lists-small (given-lists (entry d)) s (shape d))
+    omega (arith, metadata-low c, sized d .1, lists-small (given-lists (entry d)) s (shape d))
 
 no-room-requires : tie.Need-no-room-requires
 no-room-requires c κs = search needs
@@ -118,17 +116,17 @@ no-room-requires c κs = search needs
 returns-2 : tie.Need-returns-2
 returns-2 c =
     let e = c .before in
-    let d = e .before .before .before in
+    let d = e .before .before in
     rw (c .no-room .ensures) (wrote-no-room (given-lists (entry d)) (now (entry d .args .out)) (passed d) (end-is (e .before))
     (e .if1 .taken))
 
 put-segment-requires : tie.Need-put-segment-requires
 put-segment-requires c κs = record {
-  checkable = checkable (c .before .before .before .before);
+  checkable = checkable (c .before .before .before);
   names = omega arith;
   metadata = refl;
-  lists = rw (metadata-is (c .before .before .before));
-  end = rw (lists-are (c .before .before));
+  lists = rw (metadata-is (c .before .before));
+  end = rw (sized (c .before .before .before) .1);
   room = c .before .if1 .left;
 }
 
@@ -138,7 +136,7 @@ same-length c = search needs
 returns-3 : tie.Need-returns-3
 returns-3 c =
     let e = c .before .before .before .before in
-    let d = e .before .before .before in
+    let d = e .before .before in
     wrote-all (given-lists (entry d)) (now (entry d .args .out)) (passed d) (end-is (e .before)) (e .if1 .left)
     (c .before .before .put-segment .ensures)
 
@@ -146,16 +144,15 @@ pub write-positional-segment-spec : {M : Type 1} → statement M
 write-positional-segment-spec =
     tie.close
     (tie.spec
-    check-lists-requires
+    measure-lists-requires
+    enum-known-size
     enum-known-x
     returns
-    enum-told
     mul-names
     add-names
     add-metadata
     metadata-len-requires
     add-lists
-    lists-len-requires
     add-end
     no-room-requires
     returns-2
