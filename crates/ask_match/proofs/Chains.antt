@@ -7,26 +7,24 @@ use mathlib.Core.List.{List}
 use mathlib.Core.Bool.{true, false}
 use native.Mathlib.Nat.{eq-or-lt-of-le}
 use native.Mathlib.Omega.{arith}
-use lib.ListN.{length, getD, set}
-use lib.Seq.{getD-set-same, getD-set-other}
 use Rattle.common.proofs.Loops.{true-false}
 use Rattle.read_cursors.specs.declared.positions.Positions.{Positions}
-use Rattle.read_cursors.specs.Steps.{positions-from, Sought-position}
-use Rattle.ask_match.specs.Steps.{no-positions, among, Chain, Chained, Begun}
+use Rattle.read_cursors.specs.Steps.{positions-from}
+use Rattle.ask_match.specs.Steps.{Sought-in, among, Chain, Chained, Begun}
 use Rattle.common.specs.Elements.{_∈_}
 use Rattle.ask_match.proofs.Members.{sought-in, sought-back, from-low, from-first, from-none}
-use Rattle.ask_match.proofs.Places.{each-set}
+use Rattle.ask_match.proofs.Places.{each-changed}
 
 zero-or : (m : ℕ) → (m ≡ 0) ⊎ (0 < m)
 zero-or zero = inl refl
 zero-or (suc m) = inr (omega arith)
 
 -- the position at the cursor of name j
-abbrev pub stand : List Positions → ℕ → ℕ
-stand cs j = (getD cs j no-positions) .pos .0
+abbrev pub stand : (ℕ → Positions) → ℕ → ℕ
+stand cs j = cs j .pos .0
 
 -- no chain is lost; none starts below start, or has name i below target; the cursors before i are at a chain from start
-pub record Walk (n w : ℕ) (init : ℕ → ℕ → Type 0) (b : List ℕ) (cs : List Positions) (start target i : ℕ) : Type 0 where
+pub record Walk (n w : ℕ) (init : ℕ → ℕ → Type 0) (b : List ℕ) (cs : ℕ → Positions) (start target i : ℕ) : Type 0 where
   pub keeps : (p : ℕ → ℕ) → Chain n w init p → (j : ℕ) → j < n → among b cs j (p j)
   pub gains : (j q : ℕ) → among b cs j q → init j q
   pub low : (p : ℕ → ℕ) → Chain n w init p → start ≤ p 0
@@ -37,7 +35,7 @@ pub record Walk (n w : ℕ) (init : ℕ → ℕ → Type 0) (b : List ℕ) (cs :
   pub last : (j : ℕ) → j + 1 ≡ i → target ≡ stand cs j + 1
   pub fresh : i ≡ 0 → target ≡ start
 
-pub walk-start : {n w : ℕ} {b : List ℕ} {cs : List Positions} → Walk n w (among b cs) b cs 0 0 0
+pub walk-start : {n w : ℕ} {b : List ℕ} {cs : ℕ → Positions} → Walk n w (among b cs) b cs 0 0 0
 walk-start = record {
   keeps = λ p f j h. f .on j h;
   gains = λ j q m. m;
@@ -50,7 +48,7 @@ walk-start = record {
   fresh = λ e. refl;
 }
 
-module _ {n w : ℕ} {init : ℕ → ℕ → Type 0} {b : List ℕ} {cs : List Positions} {start target i : ℕ}
+module _ {n w : ℕ} {init : ℕ → ℕ → Type 0} {b : List ℕ} {cs : ℕ → Positions} {start target i : ℕ}
     (k : Walk n w init b cs start target i) where
   pub chained-some : n ≤ i → Chained n w init true
   chained-some h = record { yes = λ e. (stand cs, chain); no = λ e. true-false e }
@@ -62,10 +60,10 @@ module _ {n w : ℕ} {init : ℕ → ℕ → Type 0} {b : List ℕ} {cs : List P
         near = λ j l. omega (arith, k .done j (omega arith) .1, k .head (omega arith));
       }
 
-  module _ {d : Positions} (so : Sought-position b target (getD cs i no-positions) d) (h : i < n) where
+  module _ {new : ℕ → Positions} {d : Positions} (so : Sought-in b target i cs new d) (h : i < n) where
     -- a chain's position of name i is still shown, and not below the cursor's
     shown : (p : ℕ → ℕ) → Chain n w init p → p i ∈ positions-from b d
-    shown p f = sought-in so (p i) (k .next p f h) (k .keeps p f i h)
+    shown p f = sought-in (so .sought) (p i) (k .next p f h) (k .keeps p f i h)
 
     pub chained-none : d .remaining ≡ 0 → Chained n w init false
     chained-none e = record { yes = λ e. true-false (sym e); no = λ _ p f. from-none b d (p i) e (shown p f) }
@@ -73,43 +71,37 @@ module _ {n w : ℕ} {init : ℕ → ℕ → Type 0} {b : List ℕ} {cs : List P
     above : (p : ℕ → ℕ) → Chain n w init p → d .pos .0 ≤ p i
     above p f = from-low b d (p i) (shown p f)
 
-    module _ (fits : i < length cs) (some : 0 < d .remaining) where
-      here : getD (set cs i d) i no-positions ≡ d
-      here = getD-set-same cs i d no-positions fits
+    module _ (some : 0 < d .remaining) where
+      keeps' : (p : ℕ → ℕ) → Chain n w init p → (j : ℕ) → j < n → among b new j (p j)
+      keeps' p f j l = each-changed (λ x c. p x ∈ positions-from b c) (so .stored) (shown p f) j (k .keeps p f j l)
 
-      other : (j : ℕ) → (j ≡ i → ⊥) → getD (set cs i d) j no-positions ≡ getD cs j no-positions
-      other j ne = getD-set-other cs i j d no-positions ne
-
-      keeps' : (p : ℕ → ℕ) → Chain n w init p → (j : ℕ) → j < n → among b (set cs i d) j (p j)
-      keeps' p f j l = each-set no-positions (λ x c. p x ∈ positions-from b c) cs i d fits (shown p f) j (k .keeps p f j l)
-
-      gains' : (j q : ℕ) → among b (set cs i d) j q → init j q
+      gains' : (j q : ℕ) → among b new j q → init j q
       gains' j q =
-          each-set no-positions (λ x c. q ∈ positions-from b c → init x q) cs i d fits
-          (λ m. k .gains i q (sought-back so q m)) j (k .gains j q)
+          each-changed (λ x c. q ∈ positions-from b c → init x q) (so .stored)
+          (λ m. k .gains i q (sought-back (so .sought) q m)) j (k .gains j q)
 
-      stand-here : stand (set cs i d) i ≡ d .pos .0
-      stand-here = ap (λ (c : Positions). c .pos .0) here
+      stand-here : stand new i ≡ d .pos .0
+      stand-here = ap (λ (c : Positions). c .pos .0) (so .stored .here)
 
-      stand-before : (j : ℕ) → j < i → stand (set cs i d) j ≡ stand cs j
-      stand-before j l = ap (λ (c : Positions). c .pos .0) (other j (λ e. omega arith))
+      stand-before : (j : ℕ) → j < i → stand new j ≡ stand cs j
+      stand-before j l = ap (λ (c : Positions). c .pos .0) (so .stored .other j (λ e. omega arith))
 
       -- the cursor of name i is at the chain too
       module _ {first : ℕ} (be : Begun i start (d .pos .0) first) (close : d .pos .0 ≤ first + w) where
-        done-here : among b (set cs i d) i (stand (set cs i d) i) × (stand (set cs i d) i ≤ first + w)
-        done-here = (rw (stand, here) (from-first b d some), rw (stand, here) close)
+        done-here : among b new i (stand new i) × (stand new i ≤ first + w)
+        done-here = (rw (stand, so .stored .here) (from-first b d some), rw (stand, so .stored .here) close)
 
-        done-before : (j : ℕ) → j < i → among b (set cs i d) j (stand (set cs i d) j) × (stand (set cs i d) j ≤ first + w)
+        done-before : (j : ℕ) → j < i → among b new j (stand new j) × (stand new j ≤ first + w)
         done-before j m =
             let o = k .done j m in
-            (rw (stand, other j (λ e. omega arith)) (o .0), omega (arith, stand-before j m, o .1, be .later (omega arith)))
+            (rw (stand, so .stored .other j (λ e. omega arith)) (o .0), omega (arith, stand-before j m, o .1, be .later (omega arith)))
 
-        rise-last : (j : ℕ) → j + 1 ≡ i → stand (set cs i d) j < stand (set cs i d) (j + 1)
+        rise-last : (j : ℕ) → j + 1 ≡ i → stand new j < stand new (j + 1)
         rise-last j z =
-            let e : stand (set cs i d) (j + 1) ≡ d .pos .0 = subst (λ (x : ℕ). stand (set cs i d) x ≡ d .pos .0) (sym z) stand-here in
-            omega (arith, stand-before j (omega arith), k .last j z, so .reached some)
+            let e : stand new (j + 1) ≡ d .pos .0 = subst (λ (x : ℕ). stand new x ≡ d .pos .0) (sym z) stand-here in
+            omega (arith, stand-before j (omega arith), k .last j z, so .sought .reached some)
 
-        ok : Walk n w init b (set cs i d) first (d .pos .0 + 1) (i + 1)
+        ok : Walk n w init b new first (d .pos .0 + 1) (i + 1)
         ok = record {
           keeps = keeps';
           gains = gains';
@@ -122,9 +114,9 @@ module _ {n w : ℕ} {init : ℕ → ℕ → Type 0} {b : List ℕ} {cs : List P
               (λ m. omega (arith, stand-before j (omega arith), stand-before (j + 1) m, k .rise j m))
               (eq-or-lt-of-le (at-most (j + 1) i l));
           head = λ l. ⊎-elim
-              (λ z. omega (arith, be .first z, subst (λ (x : ℕ). stand (set cs i d) x ≡ d .pos .0) z stand-here))
+              (λ z. omega (arith, be .first z, subst (λ (x : ℕ). stand new x ≡ d .pos .0) z stand-here))
               (λ m. omega (arith, be .later m, stand-before 0 m, k .head m)) (zero-or i);
-          last = λ j e. let z : j ≡ i = omega arith in omega (arith, ap (stand (set cs i d)) z, stand-here);
+          last = λ j e. let z : j ≡ i = omega arith in omega (arith, ap (stand new) z, stand-here);
           fresh = λ e. absurd (omega arith);
         }
           where
@@ -132,19 +124,19 @@ module _ {n w : ℕ} {init : ℕ → ℕ → Type 0} {b : List ℕ} {cs : List P
             at-most a m l = omega arith
 
       pub walk-ok : {pos first : ℕ} → pos ≡ d .pos .0 → Begun i start pos first → pos ≤ first + w
-          → Walk n w init b (set cs i d) first (pos + 1) (i + 1)
+          → Walk n w init b new first (pos + 1) (i + 1)
       walk-ok {pos} {first} e =
-          subst (λ (x : ℕ). Begun i start x first → x ≤ first + w → Walk n w init b (set cs i d) first (x + 1) (i + 1)) (sym e) ok
+          subst (λ (x : ℕ). Begun i start x first → x ≤ first + w → Walk n w init b new first (x + 1) (i + 1)) (sym e) ok
 
       -- the start is not lowered, and stays below what bounds it and the position
       pub walk-first : {pos first : ℕ} → pos ≡ d .pos .0 → Begun i start pos first → start ≤ first
       walk-first e be =
-          ⊎-elim (λ z. omega (arith, be .first z, k .fresh z, so .reached some)) (λ l. omega (arith, be .later l)) (zero-or i)
+          ⊎-elim (λ z. omega (arith, be .first z, k .fresh z, so .sought .reached some)) (λ l. omega (arith, be .later l)) (zero-or i)
 
       pub walk-below : {pos first : ℕ} (m : ℕ) → Begun i start pos first → pos < m → start < m → first < m
       walk-below m be a z = ⊎-elim (λ e. omega (arith, be .first e)) (λ l. omega (arith, be .later l)) (zero-or i)
 
-      pub walk-over : {more : ℕ} → more ≡ d .pos .0 - w → Walk n w init b (set cs i d) more more 0
+      pub walk-over : {more : ℕ} → more ≡ d .pos .0 - w → Walk n w init b new more more 0
       walk-over e = record {
         keeps = keeps';
         gains = gains';

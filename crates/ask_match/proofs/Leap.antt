@@ -1,8 +1,8 @@
 -- A leap to the least start that every name takes. `init j s`: name j takes the start s. `cur` is what the cursors still show of it.
 -- Assumes nothing.
 use Prim.Native.Nat.{ℕ, _+_, _≤_, _<_}
-use mathlib.Core.Path.{sym}
-use mathlib.Core.Bool.{true, false}
+use mathlib.Core.Path.{_≡_, sym}
+use mathlib.Core.Bool.{Bool, true, false}
 use native.Mathlib.Omega.{arith}
 use borrow.Author.Count.{below-more}
 use Rattle.common.proofs.Loops.{true-false}
@@ -52,3 +52,11 @@ module _ {n : ℕ} {init cur : ℕ → ℕ → Type 0} {start i : ℕ} (l : Leap
       least = λ s f. let g = l .least s f in over s g (same .on i s g (l .keeps i s g (f i h)));
       done = λ j k. absurd (omega arith);
     }
+
+-- only what the n names take counts
+pub found-alike : {n : ℕ} {takes others : ℕ → ℕ → Type 0} {r : Bool} → ((j : ℕ) → j < n → (s : ℕ) → takes j s ≡ others j s)
+    → Found n takes r → Found n others r
+found-alike same f = record {
+  yes = λ e. let y = f .yes e in (y .0, λ j h. rw (← same j h (y .0)) (y .1 j h));
+  no = λ e s fits. f .no e s (λ j h. rw (same j h s) (fits j h));
+}

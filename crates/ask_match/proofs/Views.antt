@@ -1,63 +1,76 @@
 -- A window that slides over a name's positions: a cursor at its left edge, one past its right edge, and the number of positions between.
 -- Assumes nothing.
-use Prim.Native.Nat.{ℕ, zero, suc, _+_, _-_, _^_, _≤_, _<_}
+use Prim.Native.Nat.{ℕ, _+_, _-_, _^_, _≤_, _<_}
 use mathlib.Core.Path.{_≡_, refl, sym, ap, _∙_}
-use mathlib.Core.List.{List, [], _∷_}
+use mathlib.Core.List.{List}
 use mathlib.Core.Logic.{⊎-elim}
-use mathlib.Core.Bool.{Bool, true, _&&_}
 use native.Mathlib.Omega.{arith}
 use lib.ListN.{length, getD, set}
 use lib.Seq.{getD-set-same, getD-set-other}
-use lib.Dec.{eqb}
-use borrow.Author.Tests.{eqb-true}
-use Rattle.common.proofs.Loops.{lt-or-ge, and-left, and-right}
+use borrow.Author.Count.{below-more}
+use Rattle.common.proofs.Loops.{lt-or-ge}
 use Rattle.read_cursors.specs.declared.positions.Positions.{Positions}
 use Rattle.read_cursors.specs.Steps.{positions-from}
 use Rattle.read_cursors.proofs.Seeks.{seek-stop, seek-end, seek-length, seek-twice}
 use Rattle.read_cursors.proofs.Rising.{from-rise}
 use Rattle.ask_match.specs.declared.pass.Moved.{Moved}
 use Rattle.rules.specs.Words.{within}
-use Rattle.ask_match.specs.Steps.{no-positions, shows, Passed}
+use Rattle.ask_match.specs.Steps.{positions-in, Changed, Passed-in, Windows-open, shows, Passed}
 use Rattle.ask_match.proofs.Members.{onward, ahead}
 use Rattle.ask_match.proofs.Leap.{Same}
-use Rattle.ask_match.proofs.Places.{by-place, same-but}
+use Rattle.ask_match.proofs.Places.{by-place, changed-set, same-but}
 use Rattle.ask_match.proofs.Counts.{within-count, within-onward}
+
+-- the windows opened one after the other
+pub windows-none : {old new : ℕ → Positions} {seen : List ℕ} → Windows-open 0 old new seen
+windows-none = record { copied = λ j h. absurd (omega arith); none-seen = λ j h. absurd (omega arith) }
+
+pub windows-more : {k : ℕ} {old : ℕ → Positions} (at remaining pos : List ℕ) {seen : List ℕ}
+    → Windows-open k old (positions-in at remaining pos) seen
+    → k < length at → k < length remaining → k < length pos → k < length seen
+    → Windows-open (k + 1) old (positions-in (set at k (old k .at)) (set remaining k (old k .remaining)) (set pos k (old k .pos .0)))
+    (set seen k 0)
+windows-more {k} {old} at remaining pos {seen} o ha hr hp hs =
+    let ch = changed-set at remaining pos k (old k) (record { offsets = ha; counts = hr; places = hp }) in record {
+      copied = below-more
+          (λ j. positions-in (set at k (old k .at)) (set remaining k (old k .remaining)) (set pos k (old k .pos .0)) j ≡ old j) k
+          (λ j h. ch .other j (λ e. omega arith) ∙ o .copied j h) (ch .here);
+      none-seen = below-more (λ j. getD (set seen k 0) j 0 ≡ 0) k
+          (λ j h. getD-set-other seen k j 0 0 (λ e. omega arith) ∙ o .none-seen j h) (getD-set-same seen k 0 0 hs);
+    }
+
+-- a copy shows the same
+pub windows-show : {n : ℕ} {old new : ℕ → Positions} {seen : List ℕ} (b : List ℕ) (window : ℕ) (wanted : List ℕ)
+    → Windows-open n old new seen → (j : ℕ) → j < n → (s : ℕ) → shows b window wanted new j s ≡ shows b window wanted old j s
+windows-show b window wanted o j h s = rw (o .copied j h)
 
 -- from the right edge on both cursors show the same, and `seen` is what lies between them
 pub record View (b : List ℕ) (edge : ℕ) (l r : Positions) (seen : ℕ) : Type 0 where
   pub later : (u : ℕ) → edge ≤ u → onward u (positions-from b r) ≡ onward u (positions-from b l)
   pub count : seen + length (positions-from b r) ≡ length (positions-from b l)
 
--- of each name
-pub record Views (b : List ℕ) (edge : ℕ) (ls rs : List Positions) (seen : List ℕ) : Type 0 where
-  pub at : (j : ℕ) → j < 128 → View b edge (getD ls j no-positions) (getD rs j no-positions) (getD seen j 0)
+-- of each of n names
+pub record Views (b : List ℕ) (edge n : ℕ) (ls rs : ℕ → Positions) (seen : List ℕ) : Type 0 where
+  pub at : (j : ℕ) → j < n → View b edge (ls j) (rs j) (getD seen j 0)
 
--- a table of zeros
-abbrev zeros : List ℕ → Bool
-zeros [] = true
-zeros (x ∷ l) = eqb x 0 && zeros l
+pub views-start : (b : List ℕ) (edge : ℕ) {n : ℕ} {ls rs : ℕ → Positions} {seen : List ℕ} → Windows-open n rs ls seen
+    → Views b edge n ls rs seen
+views-start b edge o = record {
+  at = λ j h. rw (o .copied j h) (record { later = λ u k. refl; count = omega (arith, o .none-seen j h) });
+}
 
-zero-at : (l : List ℕ) → zeros l ≡ true → (j : ℕ) → getD l j 0 ≡ 0
-zero-at [] t j = refl
-zero-at (x ∷ l) t zero = eqb-true x 0 (and-left (eqb x 0) (zeros l) t)
-zero-at (x ∷ l) t (suc j) = zero-at l (and-right (eqb x 0) (zeros l) t) j
-
-pub views-start : (b : List ℕ) (edge : ℕ) (cs : List Positions) (seen : List ℕ) → zeros seen ≡ true → Views b edge cs cs seen
-views-start b edge cs seen t = record { at = λ j h. record { later = λ u k. refl; count = omega (arith, zero-at seen t j) } }
-
-pub views-up : {b : List ℕ} {edge : ℕ} {ls rs : List Positions} {seen : List ℕ} (more : ℕ) → Views b edge ls rs seen → edge ≤ more
-    → Views b more ls rs seen
+pub views-up : {b : List ℕ} {edge n : ℕ} {ls rs : ℕ → Positions} {seen : List ℕ} (more : ℕ) → Views b edge n ls rs seen → edge ≤ more
+    → Views b more n ls rs seen
 views-up more v up = record { at = λ j h. record { later = λ u k. v .at j h .later u (omega arith); count = v .at j h .count } }
 
-pub views-set : {b : List ℕ} {edge : ℕ} {ls rs : List Positions} {seen : List ℕ} {i : ℕ} {l r : Positions} {n : ℕ}
-    → Views b edge ls rs seen → i < length ls → i < length rs → i < length seen → View b edge l r n
-    → Views b edge (set ls i l) (set rs i r) (set seen i n)
-views-set {b} {edge} {ls} {rs} {seen} {i} {l} {r} {n} v hl hr hs w = record {
+pub views-set : {b : List ℕ} {edge n : ℕ} {ls rs ls' rs' : ℕ → Positions} {seen : List ℕ} {i : ℕ} {l r : Positions} {have : ℕ}
+    → Views b edge n ls rs seen → Changed i l ls ls' → Changed i r rs rs' → i < length seen → View b edge l r have
+    → Views b edge n ls' rs' (set seen i have)
+views-set {b} {edge} {n} {ls} {rs} {ls'} {rs'} {seen} {i} {l} {r} {have} v cl cr hs w = record {
   at = λ j h. by-place
-      (λ k. View b edge (getD (set ls i l) k no-positions) (getD (set rs i r) k no-positions) (getD (set seen i n) k 0)) i j
-      (rw (getD-set-same ls i l no-positions hl, getD-set-same rs i r no-positions hr, getD-set-same seen i n 0 hs) w)
-      (λ ne. rw (getD-set-other ls i j l no-positions ne, getD-set-other rs i j r no-positions ne, getD-set-other seen i j n 0 ne)
-      (v .at j h));
+      (λ k. View b edge (ls' k) (rs' k) (getD (set seen i have) k 0)) i j
+      (rw (cl .here, cr .here, getD-set-same seen i have 0 hs) w)
+      (λ ne. rw (cl .other j ne, cr .other j ne, getD-set-other seen i j have 0 ne) (v .at j h));
 }
 
 -- a window's count by its two edges
@@ -137,18 +150,17 @@ module _ (b : List ℕ) (start window span : ℕ) {l r : Positions} {seen : ℕ}
         (lt-or-ge (right .to .pos .0) (s + span));
   }
 
-module _ (b : List ℕ) (window : ℕ) (wanted : List ℕ) (ls : List Positions) (i : ℕ) where
+module _ {b : List ℕ} {start i : ℕ} {ls new : ℕ → Positions} {left : Moved} (window : ℕ) (wanted : List ℕ)
+    (pl : Passed-in b start i ls new left) where
   -- the left cursor moved to start shows the same from there on
-  pub slid-same : (start : ℕ) {left : Moved} → Passed b start (getD ls i no-positions) left → i < length ls
-      → Same start (shows b window wanted ls) (shows b window wanted (set ls i (left .to)))
-  slid-same start {left} pl h =
-      same-but (λ j c s. getD wanted j 0 ≤ within s window (positions-from b c)) ls start i (left .to) h
-      (λ s k m. rw (pl .holds, within-onward start s window (positions-from b (getD ls i no-positions)) k) m)
-      (λ s k m. rw (pl .holds, within-onward start s window (positions-from b (getD ls i no-positions)) k) at m)
+  pub slid-same : Same start (shows b window wanted ls) (shows b window wanted new)
+  slid-same =
+      same-but (λ j c s. getD wanted j 0 ≤ within s window (positions-from b c)) (pl .stored)
+      (λ s k m. rw (pl .passed .holds, within-onward start s window (positions-from b (ls i)) k) m)
+      (λ s k m. rw (pl .passed .holds, within-onward start s window (positions-from b (ls i)) k) at m)
 
-  module _ (s : ℕ) (d : Positions) (h : i < length ls) where
-    pub shown : getD wanted i 0 ≤ within s window (positions-from b d) → shows b window wanted (set ls i d) i s
-    shown m = rw (getD-set-same ls i d no-positions h) m
+  pub shown : (s : ℕ) → getD wanted i 0 ≤ within s window (positions-from b (left .to)) → shows b window wanted new i s
+  shown s m = rw (pl .stored .here) m
 
-    pub shown-back : shows b window wanted (set ls i d) i s → getD wanted i 0 ≤ within s window (positions-from b d)
-    shown-back m = rw (getD-set-same ls i d no-positions h) at m
+  pub shown-back : (s : ℕ) → shows b window wanted new i s → getD wanted i 0 ≤ within s window (positions-from b (left .to))
+  shown-back s m = rw (pl .stored .here) at m

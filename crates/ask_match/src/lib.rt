@@ -1,5 +1,6 @@
 // The three rules in one document, over cursors at the positions of each name. Read in this order:
 //   pass       a cursor advanced to a target, with the number of positions passed
+//   tables     the cursors in lent tables of numbers
 //   phrase     name i has the position start + i
 //   ordered    a rising chain, one position of each name in turn
 //   unordered  a window that holds each name as often as it is named
@@ -10,4 +11,5 @@
 pub mod ordered;
 pub mod pass;
 pub mod phrase;
+pub mod tables;
 pub mod unordered;

@@ -3,7 +3,8 @@ pub mod List-turns
 pub mod Slot-turns
 pub mod Slots-hold
 pub mod Slots-named
+pub mod Tables-hold
 pub mod Resolving
 pub mod Slots-used
-pub mod Started
+pub mod Leads
 pub mod Text-turns

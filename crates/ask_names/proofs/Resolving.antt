@@ -1,7 +1,7 @@
 -- Names resolved in an open segment, one after the other: what find_term answers tells names apart.
 -- Assumes nothing.
 use mathlib.Core.Path.{_≡_, refl, sym, ap, _∙_}
-use mathlib.Core.Bool.{true}
+use mathlib.Core.Bool.{true, false}
 use mathlib.Core.List.{List, [], _∷_, _++_, append-nil, append-assoc}
 use mathlib.Core.Logic.{⊎-elim}
 use mathlib.Core.Option.{none, some}
@@ -16,8 +16,11 @@ use Rattle.segment.proofs.Strings.{precedes-irreflexive}
 use Rattle.read_terms.specs.declared.find.TermFound.{TermFound}
 use Rattle.read_terms.specs.Steps.{Term-found}
 use Rattle.read_open.specs.Opened.{Opened-as}
-use Rattle.ask_names.specs.declared.slots.Slots.{Slots}
+use Rattle.ask_names.specs.declared.slots.Named.{Named}
+use Rattle.ask_names.specs.Steps.{Slots}
 use Rattle.ask_names.specs.Steps.{no-slots, with-found, resolved, none-left, Slots-room, Names-resolved}
+use Rattle.ask_names.specs.Tables.{Tables, Hold, Empty, Room, Taken, Resolved}
+use Rattle.ask_names.proofs.Tables-hold.{hold-none, hold-room}
 use Rattle.ask_names.proofs.Slots-hold.{resolved-room, resolved-more, founds-more, founds-length}
 use Rattle.ask_names.proofs.Slots-named.{Told-apart, Holding, holding-all}
 
@@ -64,6 +67,50 @@ module _ {bytes : List ℕ} {at : Layout} {whole : List (List ℕ)} where
 
   pub partly-all : {s : Slots} → Partly bytes at whole [] s → Names-resolved bytes at whole s
   partly-all p = rw (← p .all, append-nil) (p .resolved)
+
+-- the tables hold what the names taken so far resolve to
+pub record Held-partly (bytes : List ℕ) (at : Layout) (whole left : List (List ℕ)) (n : Named) (t : Tables) : Type 0 where
+  pub slots : Slots
+  pub partly : Partly bytes at whole left slots
+  pub holds : Hold n t slots
+
+module _ {bytes : List ℕ} {at : Layout} {whole : List (List ℕ)} where
+  pub held-none : {t : Tables} → Empty t → Held-partly bytes at whole whole (record { taken = 0; different = 0; absent = false }) t
+  held-none e = record { slots = no-slots; partly = partly-none refl; holds = hold-none e }
+
+  module _ {n : List ℕ} {left : List (List ℕ)} {k : Named} {t : Tables} (p : Held-partly bytes at whole (n ∷ left) k t)
+      (few : length whole ≤ 128) where
+    pub held-room : Room k (t .wanted)
+    held-room = hold-room (p .holds) (partly-room (p .partly) few)
+
+    pub held-more : {k′ : Named} {t′ : Tables} (f : TermFound) → Term-found bytes at n f → Taken k t f k′ t′
+        → Held-partly bytes at whole left k′ t′
+    held-more f q e = record {
+      slots = with-found (p .slots) f;
+      partly = partly-more (p .partly) f q refl;
+      holds = e (p .slots) (partly-room (p .partly) few) (p .holds);
+    }
+
+  pub held-all : {k : Named} {t : Tables} → Held-partly bytes at whole [] k t → Resolved bytes at whole k t
+  held-all p = record { slots = p .slots; resolved = partly-all (p .partly); holds = p .holds }
+
+-- ---- names that do not come in one text
+
+module _ {bytes : List ℕ} {at : Layout} where
+  pub resolved-none : {t : Tables} → Empty t → Resolved bytes at [] (record { taken = 0; different = 0; absent = false }) t
+  resolved-none e = record { slots = no-slots; resolved = names-none refl; holds = hold-none e }
+
+  module _ {ns : List (List ℕ)} {k : Named} {t : Tables} (r : Resolved bytes at ns k t) (few : length ns < 128) where
+    pub one-more-room : Room k (t .wanted)
+    one-more-room = hold-room (r .holds) (names-room (r .resolved) few)
+
+    pub resolved-one-more : {k′ : Named} {t′ : Tables} (n : List ℕ) (f : TermFound) → Term-found bytes at n f → Taken k t f k′ t′
+        → Resolved bytes at (ns ++ (n ∷ [])) k′ t′
+    resolved-one-more n f q e = record {
+      slots = with-found (r .slots) f;
+      resolved = names-more (r .resolved) n f q refl;
+      holds = e (r .slots) (names-room (r .resolved) few) (r .holds);
+    }
 
 -- ---- names told apart
 

@@ -13,7 +13,7 @@ use Rattle.common.proofs.Loops.{true-false}
 use Rattle.read_terms.specs.declared.find.TermList.{TermList}
 use Rattle.read_terms.specs.declared.find.TermFound.{TermFound}
 use Rattle.read_terms.specs.declared.find.TermFound.the-variants as found
-use Rattle.ask_names.specs.declared.slots.Slots.{Slots}
+use Rattle.ask_names.specs.Steps.{Slots}
 use Rattle.common.specs.Elements.{_∈_}
 use Rattle.ask_names.specs.Steps.{no-list, no-slots, slot-for, counted-in, with-found, resolved, Founds, none-left, one-more}
 use Rattle.ask_names.specs.Steps.{Slots-room}

@@ -16,7 +16,7 @@ use Rattle.read_terms.specs.declared.find.TermList.{TermList}
 use Rattle.read_terms.specs.declared.find.TermFound.{TermFound}
 use Rattle.read_terms.specs.declared.find.TermFound.the-variants as found
 use Rattle.segment.specs.Names.{same}
-use Rattle.ask_names.specs.declared.slots.Slots.{Slots}
+use Rattle.ask_names.specs.Steps.{Slots}
 use Rattle.common.specs.Elements.{_∈_}
 use Rattle.rules.specs.Words.{mentions}
 use Rattle.rules.specs.Different.{different}

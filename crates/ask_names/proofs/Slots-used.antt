@@ -14,7 +14,7 @@ use Rattle.read_terms.specs.declared.find.TermFound.the-variants as found
 use Rattle.calls.specs.Lookups.{postings-of}
 use Rattle.segment.specs.Results.{Result, ok, _>>=_}
 use Rattle.segment.specs.Records.{Posting, Segment}
-use Rattle.ask_names.specs.declared.slots.Slots.{Slots}
+use Rattle.ask_names.specs.Steps.{Slots}
 use Rattle.common.specs.Elements.{_∈_}
 use Rattle.rules.specs.Different.{different}
 use Rattle.calls.specs.Questions.{decode-names}

@@ -1,2 +1,3 @@
 -- What only proofs need:
 pub mod Steps
+pub mod Tables

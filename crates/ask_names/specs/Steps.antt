@@ -4,25 +4,26 @@ use mathlib.Core.Path.{_≡_}
 use mathlib.Core.Bool.{Bool, true, false, cond}
 use mathlib.Core.List.{List, [], _∷_}
 use lib.Dec.{eqb}
-use lib.ListN.{length, getD, set, replicate, drop}
+use lib.ListN.{length, getD, set, replicate}
 use mathlib.Core.Logic.{_↔_}
-use mathlib.Core.Option.{none}
 use Rattle.read_terms.specs.declared.find.TermList.{TermList}
 use Rattle.read_terms.specs.declared.find.TermFound.{TermFound}
 use Rattle.read_terms.specs.declared.find.TermFound.the-variants as found
-use Rattle.ask_names.specs.declared.slots.Slots.{Slots}
 use Rattle.rules.specs.Words.{mentions}
 use Rattle.read_open.specs.declared.header.Layout.{Layout}
-use Rattle.segment.specs.declared.checked.Checked.{Checked}
-use Rattle.segment.specs.Results.{Result, ok, _>>=_}
-use Rattle.segment.specs.Records.{Document}
-use Rattle.segment.specs.Postings.{decode}
-use Rattle.read_open.specs.Steps.{Sections-follow, cut}
-use Rattle.read_cursors.specs.Held.{held-documents, Posting-at, held-postings}
-use Rattle.segment.specs.Steps.{checked}
-use Rattle.read_cursors.specs.declared.postings.Postings.{Postings}
-use Rattle.read_cursors.specs.Steps.{postings-from}
-use Rattle.read_terms.specs.Steps.{List-inside, Term-found, list-entry}
+use Rattle.segment.specs.Results.{_>>=_}
+use Rattle.read_terms.specs.Steps.{Term-found}
+
+-- The names of a question by the terms that they name: `taken` names were taken, they name `different` terms. The name with index i names
+-- term slot[i]; term k's entry is entry[k], its list is list[k], and it is named wanted[k] times. `absent`: some name has no term.
+pub record Slots : Type 0 where
+  pub taken : ℕ
+  pub different : ℕ
+  pub absent : Bool
+  pub slot : List ℕ
+  pub entry : List ℕ
+  pub list : List TermList
+  pub wanted : List ℕ
 
 abbrev pub no-list : TermList
 no-list = record { entry = 0; start = 0; end = 0; df = 0; checksum = 0 }
@@ -125,39 +126,3 @@ pub record Names-resolved (bytes : List ℕ) (at : Layout) (ns : List (List ℕ)
   pub founds : List TermFound
   pub each : Founds (Term-found bytes at) ns founds
   pub slots : s ≡ resolved no-slots founds
-
--- the lists of the slots lie in the bytes
-pub record Lists-inside (bytes : List ℕ) (at : Layout) (s : Slots) : Type 0 where
-  pub ordered : Sections-follow bytes at
-  pub few : s .different ≤ 128
-  pub long : length (s .list) ≡ 128
-  pub each : (k : ℕ) → k < s .different → List-inside bytes (getD (s .list) k no-list)
-
--- lists k, k + 1, .., `left` of them, decoded; or the first refusal
-unfoldable pub decode-from : (documents : List Document) (bytes : List ℕ) (lists : List TermList) (remaining k : ℕ) → Result (Unit {0})
-decode-from documents bytes lists zero k = ok tt
-decode-from documents bytes lists (suc n) k = do
-  _ ← decode documents (list-entry bytes (getD lists k no-list))
-  decode-from documents bytes lists n (suc k)
-
-abbrev pub lists-decoded : (bytes : List ℕ) (at : Layout) (s : Slots) → Checked
-lists-decoded bytes at s =
-    checked (decode-from (held-documents (at .documents) none (cut bytes at .metadata)) bytes (s .list) (s .different) 0)
-
--- ---- the lists from their starts on
-
-abbrev pub no-posting : Postings
-no-posting = record { at = 0; count = 0; remaining = 0; doc = record { 0 = 0 } }
-
-pub record Slots-long (s : Slots) : Type 0 where
-  pub few : s .different ≤ 128
-  pub long : length (s .list) ≡ 128
-
--- the postings that the bytes hold where a list lies
-abbrev pub list-postings : (bytes : List ℕ) → TermList → List Posting-at
-list-postings bytes l = held-postings (l .df) none (drop (l .start) bytes)
-
--- the cursors at the first postings of the slots' lists
-pub record Heads (bytes : List ℕ) (s : Slots) (r : List Postings) : Type 0 where
-  pub long : length r ≡ 128
-  pub each : (k : ℕ) → k < s .different → postings-from bytes (getD r k no-posting) ≡ list-postings bytes (getD (s .list) k no-list)

@@ -22,7 +22,7 @@ use Rattle.rules.specs.declared.rule.Rule.the-variants.{Unordered}
 use Rattle.rules.specs.Kinds.{idle}
 use Rattle.calls.specs.Questions.{check-question, two-checks, search, search-text, search-two}
 use Rattle.ask_search.specs.Promise.{Text-answered, Two-answered}
-use Rattle.ask_search.specs.Steps.{answer-in, Replies}
+use Rattle.ask_answer.specs.Promise.{answer-in, Replies}
 use Rattle.segment.proofs.Shapes.{shape-is}
 use Rattle.calls.proofs.Well-formed.{passes-exactly}
 use Rattle.calls.proofs.Answering.{answers-idle}

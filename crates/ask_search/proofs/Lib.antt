@@ -1,4 +1,2 @@
--- Laws that belong to no one function, lowest first.
-pub mod Known
-pub mod Answered
+-- Laws that belong to no one function.
 pub mod Called

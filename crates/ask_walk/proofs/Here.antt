@@ -10,13 +10,13 @@ use lib.ListN.{getD}
 use Rattle.read_cursors.specs.declared.positions.Positions.{Positions}
 use Rattle.read_cursors.specs.declared.postings.Postings.{Postings}
 use Rattle.ask_match.specs.Steps as fits
-use Rattle.ask_match.proofs.Bridges.{place-lists, place-list, found-phrase, found-unordered, chained-lists}
+use Rattle.ask_match.proofs.Bridges.{found-told, chained-told}
 use Rattle.common.specs.Elements.{_∈_}
 use Rattle.rules.specs.Words.{mentions, within}
 use Rattle.rules.specs.declared.rule.Rule.{Rule}
 use Rattle.rules.specs.declared.rule.Rule.the-variants.{Phrase, Ordered, Unordered}
 use Rattle.rules.specs.Kinds.{meets, Meets}
-use Rattle.ask_names.specs.Steps.{Numbered, no-posting}
+use Rattle.ask_names.specs.Steps.{Numbered}
 use Rattle.ask_walk.specs.Steps.{Cursors-opened, positions-under}
 use Rattle.common.proofs.Membership.{place-of, at-place}
 use Rattle.rules.proofs.Rules-hold.{rules-agree}
@@ -27,32 +27,32 @@ alike true b is are f g = sym (are .1 (f (is .0 refl)))
 alike false true is are f g = is .1 (g (are .0 refl))
 alike false false is are f g = refl
 
-module _ (bytes : List ℕ) (n : ℕ) (slot : List ℕ) (m : ℕ) (wanted : List ℕ) (at : List Postings) (cs : List Positions)
+module _ (bytes : List ℕ) (n : ℕ) (slot : List ℕ) (m : ℕ) (wanted : List ℕ) (at : ℕ → Postings) (cs : ℕ → Positions)
     (own : List ℕ → List ℕ) (ns : List (List ℕ)) (u : Numbered n slot m wanted ns) (some : 0 < n)
-    (stand : (i : ℕ) → i < n → own (getD ns i []) ≡ positions-under bytes (getD at (getD slot i 0) no-posting)) where
+    (stand : (i : ℕ) → i < n → own (getD ns i []) ≡ positions-under bytes (at (getD slot i 0))) where
   agree : (rule : Rule) → (meets rule own ns ≡ true) ↔ Meets rule own ns
   agree rule = rules-agree rule own ns (omega (arith, u .taken))
 
   -- a cursor for each name
   module _ (opened : Cursors-opened bytes n (λ i. getD slot i 0) at cs) where
-    lists-are : (i : ℕ) → i < n → getD (place-lists bytes n cs) i [] ≡ own (getD ns i [])
-    lists-are i h = place-list bytes n cs i h ∙ opened .each i h ∙ sym (stand i h)
+    lists-are : (i : ℕ) → i < n → fits.at-place bytes cs i ≡ own (getD ns i [])
+    lists-are i h = opened .each i h ∙ sym (stand i h)
 
-    on-own : (i p : ℕ) → i < n → p ∈ getD (place-lists bytes n cs) i [] → p ∈ own (getD ns i [])
+    on-own : (i p : ℕ) → i < n → p ∈ fits.at-place bytes cs i → p ∈ own (getD ns i [])
     on-own i p h k = rw (lists-are i h) at k
 
-    on-list : (i p : ℕ) → i < n → p ∈ own (getD ns i []) → p ∈ getD (place-lists bytes n cs) i []
+    on-list : (i p : ℕ) → i < n → p ∈ own (getD ns i []) → p ∈ fits.at-place bytes cs i
     on-list i p h k = rw (lists-are i h) k
 
     pub phrase-told : {r : Bool} → fits.Found n (fits.stands bytes cs) r → r ≡ meets Phrase own ns
     phrase-told {r} f =
-        alike r (meets Phrase own ns) (found-phrase bytes n cs f) (agree Phrase)
+        alike r (meets Phrase own ns) (found-told f) (agree Phrase)
         (λ (start, on). record { start = start; on = λ i h. let k : i < n = omega (arith, u .taken) in on-own i (start + i) k (on i k) })
         (λ w. (w .start, λ i h. on-list i (w .start + i) h (w .on i (omega (arith, u .taken)))))
 
     pub ordered-told : (window : ℕ) {r : Bool} → fits.Chained n window (fits.among bytes cs) r → r ≡ meets (Ordered window) own ns
     ordered-told window {r} f =
-        alike r (meets (Ordered window) own ns) (chained-lists bytes n cs window some f) (agree (Ordered window))
+        alike r (meets (Ordered window) own ns) (chained-told some f) (agree (Ordered window))
         (λ (step, on, up, near). record {
           step = step;
           on = λ i h. let k : i < n = omega (arith, u .taken) in on-own i (step i) k (on i k);
@@ -70,15 +70,15 @@ module _ (bytes : List ℕ) (n : ℕ) (slot : List ℕ) (m : ℕ) (wanted : List
   module _ (opened : Cursors-opened bytes m (λ k. k) at cs) (window : ℕ) where
     -- under a name's index are the name's own count and the name's own list
     counts : (start i : ℕ) → i < n
-        → (getD wanted (getD slot i 0) 0 ≤ within start window (getD (place-lists bytes m cs) (getD slot i 0) []))
+        → (getD wanted (getD slot i 0) 0 ≤ within start window (fits.at-place bytes cs (getD slot i 0)))
         ≡ (mentions (getD ns i []) ns ≤ within start window (own (getD ns i [])))
     counts start i h =
         let k = u .below i h in
-        rw (u .counted i h, place-list bytes m cs (getD slot i 0) k ∙ opened .each (getD slot i 0) k ∙ sym (stand i h))
+        rw (u .counted i h, opened .each (getD slot i 0) k ∙ sym (stand i h))
 
     pub unordered-told : {r : Bool} → fits.Found m (fits.shows bytes window wanted cs) r → r ≡ meets (Unordered window) own ns
     unordered-told {r} f =
-        alike r (meets (Unordered window) own ns) (found-unordered bytes m cs window wanted f) (agree (Unordered window))
+        alike r (meets (Unordered window) own ns) (found-told f) (agree (Unordered window))
         (λ (start, holds). record {
           start = start;
           holds = λ x a.

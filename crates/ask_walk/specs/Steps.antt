@@ -11,12 +11,33 @@ use Rattle.rules.specs.Kinds.{meets}
 use Rattle.read_cursors.specs.declared.positions.Positions.{Positions}
 use Rattle.read_cursors.specs.declared.postings.Postings.{Postings}
 use Rattle.read_cursors.specs.Held.{held-positions, posting-of}
-use Rattle.read_cursors.specs.Steps.{positions-from, postings-from}
-use Rattle.ask_match.specs.Steps.{no-positions}
-use Rattle.ask_names.specs.Steps.{Numbered, no-posting}
+use Rattle.read_cursors.specs.Steps.{positions-from, postings-from, Sought-posting}
+use Rattle.ask_match.specs.Steps.{Changed}
+use Rattle.ask_names.specs.Steps.{Numbered}
 use Rattle.segment.specs.Records.{Posting}
 use Rattle.calls.specs.Lookups.{positions-of}
 use Rattle.common.specs.Members.{kept}
+
+-- the cursors over lists whose numbers four tables hold
+abbrev pub cursors-in : (at count remaining doc : List ℕ) → ℕ → Postings
+cursors-in at count remaining doc k = record {
+  at = getD at k 0;
+  count = getD count k 0;
+  remaining = getD remaining k 0;
+  doc = record { 0 = getD doc k 0 };
+}
+
+-- four tables that have an element with index k
+pub record In-tables (k : ℕ) (at count remaining doc : List ℕ) : Type 0 where
+  pub offsets : k < length at
+  pub counts : k < length count
+  pub postings : k < length remaining
+  pub documents : k < length doc
+
+-- the cursor over list k advanced
+pub record Sought-list (bytes : List ℕ) (target k : ℕ) (old new : ℕ → Postings) (r : Postings) : Type 0 where
+  pub sought : Sought-posting bytes target (old k) r
+  pub stored : Changed k r old new
 
 -- What the rule's code in one document computes: cursors at the document's postings, names by the indices of their terms.
 
@@ -28,29 +49,35 @@ positions-under bytes p = held-positions (p .count) none (drop (p .at) bytes)
 abbrev pub cursor-term : (each : Bool) (slot : List ℕ) (i : ℕ) → ℕ
 cursor-term each slot i = cond each i (getD slot i 0)
 
--- the terms of n cursors are indices of the table
-pub record Terms-inside (n : ℕ) (term : ℕ → ℕ) : Type 0 where
+-- where the positions of each term's posting start, and how many there are, is all that a rule needs of the cursors over lists
+abbrev pub postings-in : (at count : List ℕ) → ℕ → Postings
+postings-in at count = cursors-in at count [] []
+
+-- the terms of n cursors are indices of the tables, and there is room for the cursors
+pub record Openable (n : ℕ) (term : ℕ → ℕ) (at remaining pos : List ℕ) : Type 0 where
   pub few : n ≤ 128
   pub inside : (i : ℕ) → i < n → term i < 128
+  pub offsets : n ≤ length at
+  pub counts : n ≤ length remaining
+  pub places : n ≤ length pos
 
 -- n cursors, each at the first position of its term
-pub record Cursors-opened (bytes : List ℕ) (n : ℕ) (term : ℕ → ℕ) (at : List Postings) (r : List Positions) : Type 0 where
-  pub long : length r ≡ 128
-  pub each : (i : ℕ) → i < n → positions-from bytes (getD r i no-positions) ≡ positions-under bytes (getD at (term i) no-posting)
+pub record Cursors-opened (bytes : List ℕ) (n : ℕ) (term : ℕ → ℕ) (at : ℕ → Postings) (r : ℕ → Positions) : Type 0 where
+  pub each : (i : ℕ) → i < n → positions-from bytes (r i) ≡ positions-under bytes (at (term i))
 
 -- for all names and own positions that fit the indices and cursors: the answer is whether these meet the rule
-abbrev pub Document-met : (bytes : List ℕ) (a : Rule) (n : ℕ) (slot : List ℕ) (m : ℕ) (wanted : List ℕ) (at : List Postings) (r : Bool)
+abbrev pub Document-met : (bytes : List ℕ) (a : Rule) (n : ℕ) (slot : List ℕ) (m : ℕ) (wanted : List ℕ) (at : ℕ → Postings) (r : Bool)
     → Type 0
 Document-met bytes a n slot m wanted at r =
     (own : List ℕ → List ℕ) (ns : List (List ℕ)) → Numbered n slot m wanted ns → 0 < n
-    → ((i : ℕ) → i < n → own (getD ns i []) ≡ positions-under bytes (getD at (getD slot i 0) no-posting))
+    → ((i : ℕ) → i < n → own (getD ns i []) ≡ positions-under bytes (at (getD slot i 0)))
     → r ≡ meets a own ns
 
 -- What the walk over the documents finds.
 
 -- the postings of term k
-abbrev pub list-of : (bytes : List ℕ) (heads : List Postings) (k : ℕ) → List Posting
-list-of bytes heads k = map posting-of (postings-from bytes (getD heads k no-posting))
+abbrev pub list-of : (bytes : List ℕ) (heads : ℕ → Postings) (k : ℕ) → List Posting
+list-of bytes heads k = map posting-of (postings-from bytes (heads k))
 
 -- a count, and ids from a buffer's front on, as far as it goes
 pub record Found-ids (found before : List ℕ) (r : ℕ) (after : List ℕ) : Type 0 where
@@ -58,7 +85,7 @@ pub record Found-ids (found before : List ℕ) (r : ℕ) (after : List ℕ) : Ty
   pub left : after ≡ sets before 0 found
 
 -- for all names and own positions that fit the lists: the documents of the first list whose own positions meet the rule, in its order
-abbrev pub Documents-found : (bytes : List ℕ) (a : Rule) (n : ℕ) (slot : List ℕ) (m : ℕ) (wanted : List ℕ) (heads : List Postings)
+abbrev pub Documents-found : (bytes : List ℕ) (a : Rule) (n : ℕ) (slot : List ℕ) (m : ℕ) (wanted : List ℕ) (heads : ℕ → Postings)
     (before : List ℕ) (r : ℕ) (after : List ℕ) → Type 0
 Documents-found bytes a n slot m wanted heads before r after =
     (own : ℕ → List ℕ → List ℕ) (ns : List (List ℕ)) → Numbered n slot m wanted ns → 0 < n

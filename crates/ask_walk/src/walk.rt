@@ -1,7 +1,8 @@
 // The documents that every list holds, by the same leap as in one document: the least document that no list has ruled out yet is brought
 // to each list in turn; a list that is past it moves it on.
 use crate::document::document_meets;
-use read_cursors::postings::Postings;
+use crate::tables::seek_list;
+use common::widths::wide;
 use rules::rule::Rule;
 use segment::ids::DocId;
 ghost use Prim.Native.Nat.{_≤_, _<_};
@@ -9,7 +10,7 @@ ghost use mathlib.Core.Path.{_≡_};
 ghost use lib.ListN.{set};
 ghost use Rattle.common.specs.Slices.{was, left};
 ghost use Rattle.ask_names.specs.Steps.{In-slots};
-ghost use Rattle.ask_walk.specs.Steps.{Documents-found};
+ghost use Rattle.ask_walk.specs.Steps.{cursors-in, Documents-found};
 
 // Stores an id at an index of the buffer, if the buffer is that long: a walk over an empty buffer only counts.
 fn put(ids: &mut [u32], at: usize, id: DocId)
@@ -21,46 +22,71 @@ fn put(ids: &mut [u32], at: usize, id: DocId)
 }
 
 // Returns how many documents are in all m lists and meet the rule; stores the first of their ids from the buffer's front, as many as fit.
+// The cursor over list k is at[k], count[k], remaining[k], doc[k]; these tables are used up.
 pub fn walk(
     bytes: &[u8],
     rule: Rule,
     n: usize,
-    slot: [usize; 128],
+    slot: &[usize; 128],
     m: usize,
-    wanted: [u32; 128],
-    heads: [Postings; 128],
+    wanted: &[u32; 128],
+    at: &mut [usize; 128],
+    count: &mut [u32; 128],
+    remaining: &mut [u32; 128],
+    doc: &mut [u32; 128],
     ids: &mut [u32],
 ) -> usize
-    requires { ⌜ In-slots n slot × (0 < m) × (m ≤ 128) ⌝ }
-    ensures { λ r. ⌜ Documents-found (was bytes) rule n slot m wanted heads (was ids) r (left ids) ⌝ }
+    requires { ⌜ In-slots n (now slot) × (0 < m) × (m ≤ 128) ⌝ }
+    ensures { λ r. ⌜ Documents-found (was bytes) rule n (was slot) m (was wanted)
+        (cursors-in (was at) (was count) (was remaining) (was doc)) (was ids) r (left ids) ⌝ }
 {
-    let mut at = heads;
-    let mut count: usize = 0;
-    let mut doc: u64 = 0;
+    let mut last_at = [0usize; 128];
+    let mut last_remaining = [0u32; 128];
+    let mut last_pos = [0u32; 128];
+    let mut first_at = [0usize; 128];
+    let mut first_remaining = [0u32; 128];
+    let mut first_pos = [0u32; 128];
+    let mut seen = [0u32; 128];
+    let mut found: usize = 0;
+    let mut next: u64 = 0;
     let mut k: usize = 0;
     while k < m {
-        let c = at[k];
-        let here = c.seek(bytes, doc);
+        let here = seek_list(bytes, at, count, remaining, doc, k, next);
         if here.remaining == 0 {
-            return count;
+            return found;
         }
-        at[k] = here;
         let id = here.doc;
-        let found = id.0 as u64;
-        if found == doc {
+        let reached = wide(id.0);
+        if reached == next {
             k += 1;
             if k == m {
-                if document_meets(bytes, rule, n, slot, m, wanted, at) {
-                    put(ids, count, id);
-                    count += 1;
+                if document_meets(
+                    bytes,
+                    rule,
+                    n,
+                    slot,
+                    m,
+                    wanted,
+                    at,
+                    count,
+                    &mut last_at,
+                    &mut last_remaining,
+                    &mut last_pos,
+                    &mut first_at,
+                    &mut first_remaining,
+                    &mut first_pos,
+                    &mut seen,
+                ) {
+                    put(ids, found, id);
+                    found += 1;
                 }
-                doc += 1;
+                next += 1;
                 k = 0;
             }
         } else {
-            doc = found;
+            next = reached;
             k = 0;
         }
     }
-    count
+    found
 }

@@ -9,6 +9,7 @@ pub mod Below
 pub mod Answering
 pub mod Decoding
 pub mod Filling
+pub mod Kept
 pub mod Parts
 pub mod Flat
 pub mod Lengths
@@ -16,3 +17,4 @@ pub mod Sizes
 pub mod Well-formed
 pub mod Well-named
 pub mod Characters
+pub mod Whole

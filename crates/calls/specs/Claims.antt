@@ -1,5 +1,5 @@
 -- What is claimed of the definitions: each test is the same as its words, and so is a name's column. Proved in proofs/: Well-named,
--- Well-formed, Passing, Accepts, Sizes, Characters.
+-- Well-formed, Whole, Passing, Accepts, Sizes, Characters.
 use Prim.Native.Nat.{ℕ, _+_, _-_, _*_, _≤_}
 use mathlib.Core.Path.{_≡_}
 use mathlib.Core.List.{List, [], _∷_, _++_, map}
@@ -10,13 +10,14 @@ use Rattle.utf8.specs.Utf8.{Scalars, text, Is-utf8, decoded}
 use Rattle.segment.specs.Results.{ok}
 use Rattle.calls.specs.Lookups.{well-named}
 use Rattle.calls.specs.Questions.{check-question, Well-formed, two-checks}
+use Rattle.calls.specs.Whole.{whole-segment, Whole}
 use Rattle.calls.specs.Given.{Lists}
 use Rattle.calls.specs.Checks.{check-lists}
 use Rattle.calls.specs.Acceptance.{Lists-fine, Writable}
 use Rattle.calls.specs.Writing.{write}
 use Rattle.calls.specs.Sizes.{postings-size}
 use Rattle.calls.specs.Listing.{shown, name-column, listing}
-use Rattle.segment.specs.Records.{Posting}
+use Rattle.segment.specs.Records.{Posting, Segment}
 
 -- a questioned name passes exactly when it has at most 16,777,216 bytes and is UTF-8
 abbrev pub Well-named-exactly : Type 0
@@ -30,6 +31,10 @@ Passes-exactly = (text ends : List ℕ) → (check-question text ends ≡ ok tt)
 abbrev pub Two-pass-exactly : Type 0
 Two-pass-exactly =
     (a b : List ℕ) → (two-checks a b ≡ ok tt) ↔ ((length a ≤ 16777216) × (length b ≤ 16777216) × Is-utf8 a × Is-utf8 b)
+
+-- a segment is read whole exactly when it opens and every list of its directory decodes
+abbrev pub Whole-exactly : Type 0
+Whole-exactly = (bytes : List ℕ) (s : Segment) → (whole-segment bytes ≡ ok s) ↔ Whole bytes s
 
 -- the writer's checks pass exactly what document 01 names no refusal for, apart from the room
 abbrev pub Checks-exactly : Type 0

@@ -3,6 +3,8 @@ pub mod Replies
 pub mod Lookups
 pub mod Reads
 pub mod Questions
+pub mod Kept
+pub mod Whole
 pub mod Given
 pub mod Checks
 pub mod Acceptance

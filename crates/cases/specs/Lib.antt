@@ -12,6 +12,7 @@ pub mod Document-reads
 pub mod Documents
 pub mod Entries
 pub mod From-records
+pub mod Handles
 pub mod Headers
 pub mod Listed
 pub mod Lists

@@ -18,13 +18,13 @@ use Rattle.segment.specs.Written.{metadata-bytes, position-bytes, posting-bytes
 use Rattle.segment.specs.Written.{segment-bytes}
 use Rattle.calls.specs.Writing.{write, write-records}
 use Rattle.segment.specs.Contents.{decode-all, decode-segment}
+use Rattle.calls.specs.Whole.{whole-segment}
 use Rattle.calls.specs.Listing.{digits, column, name-column, count-line, document-line, entry-line, document-lines, entry-lines}
 use Rattle.calls.specs.Listing.{refusal-line, listable, listing}
 use Rattle.calls.specs.Sheet.{right-justified, marks, heading, sound-line, sound-lines, sheet, bar-sheet, sheet-into}
 use Rattle.claim_joint.specs.Own.{own-of, own-under}
 use Rattle.calls.specs.Sizes.{documents-size, positions-size, postings-size, terms-size}
 use Rattle.common.specs.Members.{every, some-of, kept}
-use Rattle.common.specs.Lists.{joined}
 use Rattle.rules.specs.Words.{mentions, within}
 use Rattle.rules.specs.Rules.{phrase-at, chain-from, ordered, unordered-at, unordered}
 use Rattle.rules.specs.Rules as rules
@@ -82,6 +82,10 @@ decoding = tt
 unfoldable pub reading-back : Unit {0}
 unfolding opening decoding decode-segment decode-all
 reading-back = tt
+
+unfoldable pub checking-once : Unit {0}
+unfolding opening decoding decode-all whole-segment
+checking-once = tt
 
 unfoldable pub calling : Unit {0}
 unfolding opening decoding well-named entry-of postings-of positions-of document-lengths document-len df term-list docs-with-term

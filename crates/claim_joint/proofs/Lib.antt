@@ -8,3 +8,4 @@ pub mod Counted
 pub mod Demanded
 pub mod Claimed
 pub mod Owned
+pub mod Checked

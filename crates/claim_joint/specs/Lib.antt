@@ -5,3 +5,4 @@ pub mod Demand
 pub mod Promise
 -- What is claimed of the definitions:
 pub mod Claims
+pub mod Checked

@@ -1,14 +1,17 @@
 // The C interface (include/pstp.h): one exported function for each call of document 01, one for the writer over records, and one for each
-// call of document 02, each a thin call of the function behind it, and one reply for all. Read in this order:
+// call of document 02, each a thin call of the function behind it, and one reply for all. Two calls answer a handle, which eight others
+// take. Read in this order:
 //   reply          the reply, and how each call's answer becomes one
 //   read           open and the read calls
 //   ask            the searches
+//   handles        segments checked once, and the calls with a handle
 //   write          the writer
 //   records        the writer over records
 //   midi           bars from MIDI files
 //   show           a bar on paper
 // specs/Promise.antt says what a reply has for each answer; the promises are those of the calls behind.
 pub mod ask;
+pub mod handles;
 pub mod midi;
 pub mod read;
 pub mod records;

@@ -89,6 +89,16 @@ positions-few (suc n) previous bytes = go (value-at previous bytes) (λ p b. pos
     go (ok v) ih = omega (arith, ih (v .got) (v .rest))
     go (refuse x) ih = omega arith
 
+pub postings-few : (n : ℕ) (previous : Option ℕ) (bytes : List ℕ) → length (held-postings n previous bytes) ≤ n
+unfolding held-postings
+postings-few zero previous bytes = omega arith
+postings-few (suc n) previous bytes = go (posting-here previous bytes) (λ d b. postings-few n (some d) b)
+  where
+    go : (r : Result Posting-at) → ((d : ℕ) (b : List ℕ) → length (held-postings n (some d) b) ≤ n)
+        → length (on-posting (λ s. held-postings n (some (s .doc)) (skipped (s .count) (s .bytes))) r) ≤ suc n
+    go (ok s) ih = omega (arith, ih (s .doc) (skipped (s .count) (s .bytes)))
+    go (refuse x) ih = omega arith
+
 -- the same from a cursor on
 module _ (s : List ℕ) where
   pub from-rise : (remaining at pos : ℕ) → Rises (λ (p : ℕ). p) pos (positions-at remaining at pos s)

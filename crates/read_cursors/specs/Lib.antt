@@ -1,3 +1,4 @@
 -- What only proofs need:
 pub mod Held
+pub mod Singles
 pub mod Steps

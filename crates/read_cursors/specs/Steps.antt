@@ -7,6 +7,8 @@ use mathlib.Core.Path.{_≡_}
 use mathlib.Core.Option.{Option, some}
 use Rattle.read_cursors.specs.declared.documents.DocumentStep.{DocumentStep}
 use Rattle.read_cursors.specs.declared.documents.DocumentStep.the-variants as step
+use Rattle.read_cursors.specs.declared.documents.ShortDocument.{ShortDocument}
+use Rattle.read_cursors.specs.declared.documents.ShortDocument.the-variants as short-document
 use Rattle.read_cursors.specs.declared.values.ValueStep.{ValueStep}
 use Rattle.read_cursors.specs.declared.values.ValueStep.the-variants as value
 use Rattle.segment.specs.Results.{Result, ok, refuse}
@@ -15,11 +17,18 @@ use Rattle.segment.specs.Metadata.{document}
 use Rattle.read_cursors.specs.declared.documents.Documents.{Documents}
 use Rattle.read_cursors.specs.Held.{rest-of, seek-in, held-documents, skipped, Posting-at, held-postings, held-positions}
 use Rattle.read_cursors.specs.declared.postings.Postings.{Postings}
+use Rattle.read_cursors.specs.declared.postings.ShortPosting.{ShortPosting}
+use Rattle.read_cursors.specs.declared.postings.ShortPosting.the-variants as short-posting
 use Rattle.read_cursors.specs.declared.positions.Positions.{Positions}
 
 abbrev pub document-means : List ℕ → DocumentStep → Result (Read Document)
 document-means meta (step.Next d) = ok (record { got = document (d .id .0) (d .len); rest = drop (d .next .at) meta })
 document-means meta (step.Refused x) = refuse x
+
+-- a document that was read at once is the one that is there; of any other nothing is said
+abbrev pub Short-read : List ℕ → Result (Read Document) → ShortDocument → Type 0
+Short-read meta there (short-document.Sure d) = document-means meta (step.Next d) ≡ there
+Short-read meta there short-document.Unsure = Unit {0}
 
 -- ---- posting lists
 
@@ -66,6 +75,11 @@ pub record Entered-postings (bytes : List ℕ) (remaining : ℕ) (previous : Opt
 pub record Advanced-postings (bytes : List ℕ) (c r : Postings) : Type 0 where
   pub holds : postings-from bytes r ≡ rest-of (postings-from bytes c)
   pub less : r .remaining ≤ c .remaining - 1
+
+-- a cursor that was advanced at once is the advanced one; of any other nothing is said
+abbrev pub Short-advanced : List ℕ → Postings → ShortPosting → Type 0
+Short-advanced bytes c (short-posting.Sure r) = Advanced-postings bytes c r
+Short-advanced bytes c short-posting.Unsure = Unit {0}
 
 pub record Sought-posting (bytes : List ℕ) (target : ℕ) (c r : Postings) : Type 0 where
   pub holds : postings-from bytes r ≡ seek-in (λ (s : Posting-at). s .doc) target (postings-from bytes c)

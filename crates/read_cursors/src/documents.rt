@@ -1,4 +1,6 @@
 // Document metadata: per document an id gap and a length.
+use crate::singles::all_single;
+use common::widths::byte;
 use leb128::varint::Decoded;
 use leb128::varint::Reader;
 use segment::ids::DocId;
@@ -16,7 +18,8 @@ ghost use lib.Dec.{eqb};
 ghost use Rattle.common.specs.Slices.{was};
 ghost use Rattle.segment.specs.Metadata.{read-document};
 ghost use Rattle.segment.specs.Steps.{earlier};
-ghost use Rattle.read_cursors.specs.Steps.{document-means, Entered-documents, Advanced-documents, Sought-document, documents-from};
+ghost use Rattle.read_cursors.specs.Steps.{document-means, Short-read, documents-from};
+ghost use Rattle.read_cursors.specs.Steps.{Entered-documents, Advanced-documents, Sought-document};
 ghost use Rattle.read_cursors.specs.Held.{held-documents};
 
 // A document that was read, and the advanced reader.
@@ -31,8 +34,14 @@ pub enum DocumentStep {
     Refused(Refusal),
 }
 
-// The document at the reader: both numbers, overflow, order. The first one's gap is its id.
-pub fn read_document(meta: &[u8], from: Reader, index: u32, previous: DocId) -> DocumentStep
+// What is known at once of the document at a reader.
+pub enum ShortDocument {
+    Sure(DocumentRead),
+    Unsure,
+}
+
+// The document at the reader, number by number: both numbers, overflow, order. The first one's gap is its id.
+fn read_document_each(meta: &[u8], from: Reader, index: u32, previous: DocId) -> DocumentStep
     ensures { λ r. ⌜ document-means (was meta) r ≡ read-document index (earlier (eqb index 0) (previous .0)) (drop (from .at) (was meta))
         ⌝ }
 {
@@ -65,6 +74,40 @@ pub fn read_document(meta: &[u8], from: Reader, index: u32, previous: DocId) -> 
     })
 }
 
+// The document at the reader, where its gap and its length take a byte each and it is sure to be accepted.
+fn short_document(meta: &[u8], from: Reader, index: u32, previous: DocId) -> ShortDocument
+    ensures { λ r. ⌜ Short-read (was meta) (read-document index (earlier (eqb index 0) (previous .0)) (drop (from .at) (was meta))) r ⌝ }
+{
+    let at = from.at;
+    if all_single(meta, at, 2) {
+        let gap = byte(meta[at]);
+        let len = byte(meta[at + 1]);
+        if 0 < index {
+            if 0 < gap {
+                if gap <= 0xFFFF_FFFF - previous.0 {
+                    return ShortDocument::Sure(DocumentRead {
+                        id: DocId(previous.0 + gap),
+                        len: len,
+                        next: Reader { at: at + 2 },
+                    });
+                }
+            }
+        }
+    }
+    ShortDocument::Unsure
+}
+
+// The document at the reader: at once where it is short, else number by number.
+pub fn read_document(meta: &[u8], from: Reader, index: u32, previous: DocId) -> DocumentStep
+    ensures { λ r. ⌜ document-means (was meta) r ≡ read-document index (earlier (eqb index 0) (previous .0)) (drop (from .at) (was meta))
+        ⌝ }
+{
+    match short_document(meta, from, index, previous) {
+        ShortDocument::Sure(d) => DocumentStep::Next(d),
+        ShortDocument::Unsure => read_document_each(meta, from, index, previous),
+    }
+}
+
 // A cursor over the metadata: `remaining` documents are to come, the first of them is `id` with length `len`, and the next one starts at
 // offset `at`.
 pub struct Documents {
@@ -87,7 +130,7 @@ impl Documents {
                 len: 0,
             };
         }
-        match read_document(meta, from, index, previous) {
+        match read_document_each(meta, from, index, previous) {
             DocumentStep::Next(d) => {
                 let next = d.next;
                 let id = d.id;
@@ -114,14 +157,30 @@ impl Documents {
         Documents::enter(meta, Reader { at: 0 }, count, 0, DocId(0))
     }
 
-    // The cursor advanced by one document.
+    // The cursor advanced by one document: at once where the next one is short.
     pub fn advance(self, meta: &[u8]) -> Documents
         ensures { λ r. ⌜ Advanced-documents (was meta) self r ⌝ }
     {
         if self.remaining == 0 {
             return self;
         }
-        Documents::enter(meta, Reader { at: self.at }, self.remaining - 1, 1, self.id)
+        let remaining = self.remaining - 1;
+        if 0 < remaining {
+            match short_document(meta, Reader { at: self.at }, 1, self.id) {
+                ShortDocument::Sure(d) => {
+                    let next = d.next;
+                    let id = d.id;
+                    return Documents {
+                        at: next.at,
+                        remaining: remaining,
+                        id: id,
+                        len: d.len,
+                    };
+                }
+                ShortDocument::Unsure => {}
+            }
+        }
+        Documents::enter(meta, Reader { at: self.at }, remaining, 1, self.id)
     }
 
     // The cursor at the first document from here whose id is at least `id`.

@@ -1,7 +1,10 @@
 // A cursor over the postings of a list. It demands nothing of the bytes: where the next posting would be refused, none remains.
+use crate::singles::all_single;
 use crate::values::ValueStep;
 use crate::values::read_value;
 use crate::values::skip;
+use common::widths::byte;
+use common::widths::long;
 use leb128::varint::Decoded;
 use leb128::varint::Reader;
 use segment::ids::DocId;
@@ -13,7 +16,7 @@ ghost use lib.ListN.{drop};
 ghost use Rattle.common.specs.Slices.{was};
 ghost use Rattle.segment.specs.Steps.{earlier};
 ghost use Rattle.read_cursors.specs.Held.{held-postings};
-ghost use Rattle.read_cursors.specs.Steps.{postings-from, Entered-postings, Advanced-postings, Sought-posting};
+ghost use Rattle.read_cursors.specs.Steps.{postings-from, Entered-postings, Advanced-postings, Short-advanced, Sought-posting};
 
 // A cursor over a list: `remaining` postings are to come, the first of them is of document `doc`, and its `count` positions start at
 // offset `at`.
@@ -22,6 +25,12 @@ pub struct Postings {
     pub count: u32,
     pub remaining: u32,
     pub doc: DocId,
+}
+
+// What is known at once of the cursor advanced by one posting.
+pub enum ShortPosting {
+    Sure(Postings),
+    Unsure,
 }
 
 impl Postings {
@@ -72,8 +81,8 @@ impl Postings {
         Postings::enter(bytes, Reader { at: at }, df, true, DocId(0))
     }
 
-    // The cursor advanced by one posting; its positions are skipped.
-    pub fn advance(self, bytes: &[u8]) -> Postings
+    // The cursor advanced by one posting, number by number; its positions are skipped.
+    fn advance_each(self, bytes: &[u8]) -> Postings
         ensures { λ r. ⌜ Advanced-postings (was bytes) self r ⌝ }
     {
         if self.remaining == 0 {
@@ -81,6 +90,43 @@ impl Postings {
         }
         let past = skip(bytes, Reader { at: self.at }, self.count);
         Postings::enter(bytes, past, self.remaining - 1, false, self.doc)
+    }
+
+    // The cursor advanced by one posting, where its positions and the next posting's gap and count take a byte each, and that posting is
+    // sure to be accepted.
+    fn advance_short(self, bytes: &[u8]) -> ShortPosting
+        ensures { λ r. ⌜ Short-advanced (was bytes) self r ⌝ }
+    {
+        let n = long(self.count);
+        if all_single(bytes, self.at, n + 2) {
+            let past = self.at + n;
+            let gap = byte(bytes[past]);
+            let count = byte(bytes[past + 1]);
+            let doc = self.doc;
+            if 1 < self.remaining {
+                if 0 < gap {
+                    if gap <= 0xFFFF_FFFF - doc.0 {
+                        return ShortPosting::Sure(Postings {
+                            at: past + 2,
+                            count: count,
+                            remaining: self.remaining - 1,
+                            doc: DocId(doc.0 + gap),
+                        });
+                    }
+                }
+            }
+        }
+        ShortPosting::Unsure
+    }
+
+    // The cursor advanced by one posting: at once where all is short, else number by number.
+    pub fn advance(self, bytes: &[u8]) -> Postings
+        ensures { λ r. ⌜ Advanced-postings (was bytes) self r ⌝ }
+    {
+        match self.advance_short(bytes) {
+            ShortPosting::Sure(next) => next,
+            ShortPosting::Unsure => self.advance_each(bytes),
+        }
     }
 
     // The cursor at the first posting from here whose document is at least `target`.
@@ -93,7 +139,15 @@ impl Postings {
             if target <= here.0 as u64 {
                 return c;
             }
-            c = c.advance(bytes);
+            // `advance`, written out: `advance_each` then stays a call of its own, and the cursor stays in registers
+            match c.advance_short(bytes) {
+                ShortPosting::Sure(next) => {
+                    c = next;
+                }
+                ShortPosting::Unsure => {
+                    c = c.advance_each(bytes);
+                }
+            }
         }
         c
     }

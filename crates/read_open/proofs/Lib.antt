@@ -4,3 +4,5 @@ pub mod Checks
 pub mod Entries
 pub mod Lookup
 pub mod Openings
+pub mod Fitting
+pub mod Own

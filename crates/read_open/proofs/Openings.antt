@@ -20,6 +20,7 @@ use Rattle.segment.specs.Records.{Segment, field}
 use Rattle.segment.specs.Metadata.{metadata}
 use Rattle.segment.specs.Directory.{directory}
 use Rattle.segment.specs.Opening.{Sections, sections, section-checksum, checksums, contents, open-segment}
+use Rattle.read_open.specs.Layouts.{layout-in}
 use Rattle.read_open.specs.Steps.{Sections-follow, cut}
 use Rattle.segment.specs.Steps.{checked}
 use Rattle.read_open.specs.Opened.{no-entry, Is-open, Opens}
@@ -126,13 +127,14 @@ open-whole bytes e i h =
 -- ---- the segment, from the sections that the layout cuts
 
 module _ (bytes : List ℕ) (l : Layout) where
-  pub is-open : {s : Segment} → Sections-follow bytes l → contents (cut bytes l) ≡ ok s → Is-open bytes l s
-  is-open o e =
+  pub is-open : {s : Segment} → Sections-follow bytes l → l ≡ layout-in bytes → contents (cut bytes l) ≡ ok s → Is-open bytes l s
+  is-open o n e =
       let (d, t) = contents-parts (cut bytes l) e in
       let (held, count) = metadata-held (l .documents) (cut bytes l .metadata) d in
       let r = directory-ok (l .terms) (cut bytes l .directory) (cut bytes l .names) (cut bytes l .lists) t in
       record {
         ordered = o;
+        numbers = n;
         documents = held;
         document-count = count;
         term-count = r .size;
@@ -154,8 +156,8 @@ module _ (bytes : List ℕ) (l : Layout) where
       pub bad-contents : {x : Refusal} → Refused x ≡ checked (contents (cut bytes l)) → open-segment bytes ≡ refuse x
       bad-contents e = goes-on ∙ refused-is (contents (cut bytes l)) e
 
-      pub opens : Sections-follow bytes l → Passed ≡ checked (contents (cut bytes l)) → Opens bytes (opening.Layout l)
-      opens o e = let (s, q) = passed-ok (contents (cut bytes l)) e in (s, goes-on ∙ q, is-open o q)
+      pub opens : Sections-follow bytes l → l ≡ layout-in bytes → Passed ≡ checked (contents (cut bytes l)) → Opens bytes (opening.Layout l)
+      opens o n e = let (s, q) = passed-ok (contents (cut bytes l)) e in (s, goes-on ∙ q, is-open o n q)
 
 pub no-sections : (bytes : List ℕ) {x : Refusal} → sections bytes ≡ refuse x → open-segment bytes ≡ refuse x
 unfolding open-segment

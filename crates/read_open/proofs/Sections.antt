@@ -22,6 +22,7 @@ use Rattle.segment.specs.Records.{field, between}
 use Rattle.segment.specs.Names.{same}
 use Rattle.segment.specs.Directory.{part}
 use Rattle.segment.specs.Opening.{Sections, magic, ranges, sections}
+use Rattle.read_open.specs.Layouts.{layout-in}
 use Rattle.read_open.specs.Steps.{range-end, cut, opening-means, Sections-follow, Reads}
 
 take-by : (k n : ℕ) (l : List ℕ) → k ≡ n → take k l ≡ take n l
@@ -81,7 +82,7 @@ pub told : (section at whole : ℕ) {n m : ℕ} {r e : RangeEnd} → n ≡ m →
 told section at whole q f g = ap (λ (k : ℕ). range-end section at k whole) (sym q) ∙ sym f ∙ g
 
 pub refused : {bytes : List ℕ} {answer : Result Sections} {x : Refusal} → refuse x ≡ answer → Reads bytes answer (opening.Refused x)
-refused q = record { reads = q; ordered = tt }
+refused q = record { reads = q; ordered = tt; numbers = tt }
 
 -- ---- the ends in the order of the code's tests, each from the one before
 
@@ -159,6 +160,7 @@ module _ (bytes : List ℕ) {a : ℕ} (da : directory-end bytes ≡ range.At a) 
             metadata = omega (arith, at-c .0);
             lists = at-c .1;
           };
+          numbers = rw (q, r, at-c .0, at-b .0, at-a .0);
         }
 
 -- ---- the header's tests in front of the ends
@@ -198,3 +200,6 @@ module _ {bytes : List ℕ} {answer : Result Sections} {r : Opening} (shown : Re
 
   pub layout-order : {l : Layout} → r ≡ opening.Layout l → Sections-follow bytes l
   layout-order e = rw e at (shown .ordered)
+
+  pub layout-numbers : {l : Layout} → r ≡ opening.Layout l → l ≡ layout-in bytes
+  layout-numbers e = rw e at (shown .numbers)

@@ -10,6 +10,7 @@ use Rattle.read_open.specs.declared.header.Opening.the-variants as openi
 use Rattle.read_open.specs.declared.header.Layout.{Layout}
 use Rattle.read_open.specs.declared.header.RangeEnd.{RangeEnd}
 use Rattle.read_open.specs.declared.header.RangeEnd.the-variants as range
+use Rattle.read_open.specs.Layouts.{layout-in}
 use Rattle.segment.specs.Refusals.{truncated, invalid-layout, section-range-overflow}
 use Rattle.segment.specs.Results.{Result, ok, refuse}
 use Rattle.segment.specs.Records.{between, Entry, field, header-size, entry-size}
@@ -55,11 +56,16 @@ abbrev pub In-order : List ℕ → Opening → Type 0
 In-order bytes (opening.Layout l) = Sections-follow bytes l
 In-order bytes (opening.Refused x) = Unit {0}
 
--- What the header's code shows of its answer r: it means what the definition answers, and a layout's offsets rise. The equation alone
--- does not show the second: offsets out of order cut empty sections too.
+abbrev pub Numbered : List ℕ → Opening → Type 0
+Numbered bytes (opening.Layout l) = l ≡ layout-in bytes
+Numbered bytes (opening.Refused x) = Unit {0}
+
+-- What the header's code shows of its answer r: it means what the definition answers, a layout's offsets rise, and it is the one that the
+-- header's numbers make. The equation alone shows neither: offsets out of order cut empty sections too.
 pub record Reads (bytes : List ℕ) (answer : Result Sections) (r : Opening) : Type 0 where
   pub reads : opening-means bytes r ≡ answer
   pub ordered : In-order bytes r
+  pub numbers : Numbered bytes r
 
 -- What the directory's code means: entries by index, names in their section.
 
@@ -119,3 +125,8 @@ pub record Sorted (dir names : List ℕ) (count : ℕ) : Type 0 where
 abbrev pub Located : (dir names : List ℕ) (count : ℕ) (name : List ℕ) → TermEntry → Type 0
 Located dir names count name (found.At i) = (i < count) × (name-at dir names i ≡ name)
 Located dir names count name found.Absent = (i : ℕ) → i < count → name-at dir names i ≡ name → ⊥
+
+-- the entry of a name in any directory: an index whose entry has it; or none, and then no entry has it if the names lie inside and rise
+abbrev pub Located-any : (dir names : List ℕ) (count : ℕ) (name : List ℕ) → TermEntry → Type 0
+Located-any dir names count name (found.At i) = (i < count) × (name-at dir names i ≡ name)
+Located-any dir names count name found.Absent = Sorted dir names count → Located dir names count name found.Absent

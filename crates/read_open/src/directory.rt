@@ -20,13 +20,15 @@ use segment::refusal::invalid_layout;
 use segment::refusal::invalid_utf8;
 use utf8::characters::is_utf8;
 ghost use mathlib.Core.Path.{_≡_};
+ghost use mathlib.Core.Bool.{false};
+ghost use mathlib.Core.Logic.{_↔_};
 ghost use Prim.Native.Nat.{_+_, _*_, _≤_, _<_};
 ghost use lib.ListN.{length};
 ghost use Rattle.segment.specs.Records.{entry-size};
 ghost use Rattle.common.specs.Slices.{was};
 ghost use Rattle.segment.specs.Directory.{directory, read-list-range};
 ghost use Rattle.segment.specs.Steps.{order, checked};
-ghost use Rattle.read_open.specs.Steps.{In-names, follows-name, Walked-entry, name-at, Entry-inside, Sorted, Located};
+ghost use Rattle.read_open.specs.Steps.{In-names, follows-name, Walked-entry, name-at, Entry-inside, Located-any};
 
 // Where a name lies in the section of term bytes.
 pub struct NameRange {
@@ -134,6 +136,20 @@ pub fn decode_term_directory(dir: &[u8], names: &[u8], lists: &[u8], count: u32)
     Checked::Passed
 }
 
+// Whether the name of entry `i` does not lie in the term bytes.
+fn entry_outside(dir: &[u8], names: &[u8], i: usize) -> bool
+    requires { ⌜ i * entry-size + entry-size ≤ length (now dir) ⌝ }
+    ensures { λ r. ⌜ (r ≡ false) ↔ Entry-inside (was dir) (was names) i ⌝ }
+{
+    let at = i * ENTRY_SIZE;
+    let start = long(read_u32_at(dir, at));
+    let end = start + long(read_u32_at(dir, at + 4));
+    if names.len() < end {
+        return true;
+    }
+    false
+}
+
 // Compares the name of entry `i` with a name.
 fn compare_entry(dir: &[u8], names: &[u8], i: usize, name: &[u8]) -> Order
     requires { ⌜ Entry-inside (now dir) (now names) i ⌝ }
@@ -151,15 +167,19 @@ pub enum TermEntry {
     Absent,
 }
 
-// Binary search for the entry with a name: opening has shown that the names rise.
+// Binary search for the entry with a name. In a directory that opening has checked the names lie inside and rise; in any other the search
+// stays inside it, and ends at a name that does not.
 pub fn term_entry(dir: &[u8], names: &[u8], count: u32, name: &[u8]) -> TermEntry
-    requires { ⌜ Sorted (now dir) (now names) count ⌝ }
-    ensures { λ r. ⌜ Located (was dir) (was names) count (was name) r ⌝ }
+    requires { ⌜ count * entry-size ≤ length (now dir) ⌝ }
+    ensures { λ r. ⌜ Located-any (was dir) (was names) count (was name) r ⌝ }
 {
     let mut low: usize = 0;
     let mut high = long(count);
     while low < high {
         let middle = low + (high - low) / 2;
+        if entry_outside(dir, names, middle) {
+            return TermEntry::Absent;
+        }
         match compare_entry(dir, names, middle, name) {
             Order::Less => {
                 low = middle + 1;

@@ -1,4 +1,6 @@
 // The header: magic, version, flags, counts, and where the four sections lie.
+use common::widths::long;
+use segment::fixed::ENTRY_SIZE;
 use segment::fixed::HEADER_SIZE;
 use segment::fixed::read_u32_at;
 use segment::fixed::read_usize_at;
@@ -17,12 +19,15 @@ use segment::refusal::truncated;
 use segment::refusal::unsupported_flags;
 use segment::refusal::unsupported_version;
 ghost use mathlib.Core.Path.{_≡_};
+ghost use mathlib.Core.Bool.{true};
+ghost use mathlib.Core.Logic.{_↔_};
 ghost use Prim.Native.Nat.{_≤_};
 ghost use lib.ListN.{length};
 ghost use Rattle.segment.specs.Records.{header-size};
 ghost use Rattle.common.specs.Slices.{was};
 ghost use Rattle.segment.specs.Opening.{sections, ranges};
 ghost use Rattle.read_open.specs.Steps.{range-end, Reads};
+ghost use Rattle.read_open.specs.Opened.{Fits};
 
 // Where the parts of a segment lie. The directory starts at 72; each section ends where the next starts, the lists with the segment.
 pub struct Layout {
@@ -128,4 +133,26 @@ pub fn read_header(bytes: &[u8]) -> Opening
         return Opening::Refused(unsupported_flags(flags));
     }
     read_ranges(bytes)
+}
+
+// Whether a layout that a caller hands in fits some bytes: enough for every lookup to stay inside them.
+pub fn fits(bytes: &[u8], at: Layout) -> bool
+    ensures { λ r. ⌜ (r ≡ true) ↔ Fits (was bytes) at ⌝ }
+{
+    if at.names < HEADER_SIZE {
+        return false;
+    }
+    if at.metadata < at.names {
+        return false;
+    }
+    if at.lists < at.metadata {
+        return false;
+    }
+    if bytes.len() < at.lists {
+        return false;
+    }
+    if at.names - HEADER_SIZE < long(at.terms) * ENTRY_SIZE {
+        return false;
+    }
+    true
 }

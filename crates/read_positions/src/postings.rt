@@ -20,7 +20,7 @@ ghost use Rattle.read_positions.specs.Promise.{Postings-answered, Positi
 ghost use Rattle.read_positions.specs.Steps.{Filled-postings, all-positions};
 
 // Stores the positions from a cursor on, from index `at` of `out` on; returns the index after them.
-fn fill_positions(bytes: &[u8], from: Positions, out: &mut [u32], at: usize) -> usize
+pub fn fill_positions(bytes: &[u8], from: Positions, out: &mut [u32], at: usize) -> usize
     requires { ⌜ at + length (positions-from (now bytes) from) ≤ length (now out) ⌝ }
     ensures { λ r. ⌜ Stored (positions-from (was bytes) from) at (was out) r (left out) ⌝ }
 {
@@ -36,7 +36,7 @@ fn fill_positions(bytes: &[u8], from: Positions, out: &mut [u32], at: usize) -> 
 }
 
 // The postings of a list: ids and counts side by side, and all positions, at the fronts of three buffers.
-fn fill_postings(
+pub fn fill_postings(
     bytes: &[u8],
     at: usize,
     df: u32,

@@ -5,3 +5,4 @@ pub mod Longer
 pub mod Asking
 pub mod Turns
 pub mod In-document
+pub mod Side-by-side

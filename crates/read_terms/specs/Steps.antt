@@ -1,14 +1,14 @@
 -- What a term found and decoded means.
-use Prim.Native.Nat.{ℕ, _≤_, _<_}
+use Prim.Native.Nat.{ℕ, _+_, _*_, _≤_, _<_}
 use mathlib.Core.Path.{_≡_}
 use mathlib.Core.List.{List, [], map}
 use mathlib.Core.Option.{none, some}
 use lib.ListN.{length, drop, getD}
 use Rattle.read_open.specs.declared.header.Layout.{Layout}
-use Rattle.segment.specs.Records.{Entry, Segment, between, Posting}
+use Rattle.segment.specs.Records.{Entry, Segment, between, field, entry-size, Posting}
 use Rattle.segment.specs.Directory.{entry-of}
 use Rattle.read_open.specs.Steps.{cut, name-at}
-use Rattle.read_open.specs.Opened.{Is-open, no-entry}
+use Rattle.read_open.specs.Opened.{Is-open, Fits, no-entry}
 use Rattle.read_terms.specs.declared.find.TermList.{TermList}
 use Rattle.read_terms.specs.declared.find.TermFound.{TermFound}
 use Rattle.read_terms.specs.declared.find.TermFound.the-variants as found
@@ -33,6 +33,18 @@ entry-named name bytes l = record { name = name; list = bytes-of-list bytes l; d
 
 abbrev pub list-entry : List ℕ → TermList → Entry
 list-entry bytes l = entry-named [] bytes l
+
+-- the list of the entry at an index lies in the lists
+abbrev pub List-lies : List ℕ → Layout → ℕ → Type 0
+List-lies bytes l i =
+    field 8 (i * entry-size + 8) (cut bytes l .directory) + field 8 (i * entry-size + 16) (cut bytes l .directory) ≤ length
+    (cut bytes l .lists)
+
+-- an entry that can be read: the layout fits, it has the entry, and the entry's list lies in the lists
+pub record Entry-lies (bytes : List ℕ) (l : Layout) (i : ℕ) : Type 0 where
+  pub fits : Fits bytes l
+  pub below : i < l .terms
+  pub list : List-lies bytes l i
 
 -- the list of the entry at an index of the directory, whichever segment the layout is said to be of
 pub record Entry-list (bytes : List ℕ) (l : Layout) (i : ℕ) (t : TermList) : Type 0 where

@@ -1,4 +1,4 @@
-// A term found in an open segment, and its posting list decoded.
+// A term found by a layout that fits, and its posting list decoded.
 use crc32::checksum::crc32;
 use read_cursors::documents::Documents;
 use read_lists::lists::Tally;
@@ -15,16 +15,17 @@ use segment::ids::DocId;
 use segment::refusal::TERM_POSTINGS;
 use segment::refusal::checksum_mismatch;
 ghost use mathlib.Core.Path.{_≡_};
+ghost use mathlib.Core.Bool.{false};
+ghost use mathlib.Core.Logic.{_↔_};
 ghost use mathlib.Core.Option.{none};
-ghost use Prim.Native.Nat.{_≤_, _<_};
-ghost use lib.ListN.{length};
+ghost use Prim.Native.Nat.{_<_};
 ghost use Rattle.common.specs.Slices.{was};
 ghost use Rattle.read_open.specs.Steps.{Sections-follow, cut};
 ghost use Rattle.read_cursors.specs.Held.{held-documents};
 ghost use Rattle.segment.specs.Postings.{decode};
 ghost use Rattle.read_lists.specs.Steps.{Marks, tallied, tallied-in};
-ghost use Rattle.read_terms.specs.Steps.{List-inside, Entry-list, Term-found, list-entry};
-ghost use Rattle.read_open.specs.Opened.{Opened-as};
+ghost use Rattle.read_terms.specs.Steps.{List-inside, List-lies, Entry-lies, Entry-list, Term-found, list-entry};
+ghost use Rattle.read_open.specs.Opened.{Fits};
 
 // A term's list: its entry's index in the directory, its offsets in the segment, how many postings it has, its checksum.
 pub struct TermList {
@@ -40,9 +41,29 @@ pub enum TermFound {
     Absent,
 }
 
+// Whether the list of the entry at an index does not lie in the lists. Opening has shown that it does.
+fn list_outside(bytes: &[u8], at: Layout, i: usize) -> bool
+    requires { ⌜ Fits (now bytes) at × (i < at .terms) ⌝ }
+    ensures { λ r. ⌜ (r ≡ false) ↔ List-lies (was bytes) at i ⌝ }
+{
+    let names = at.names;
+    let offset = i * ENTRY_SIZE;
+    let dir = &bytes[HEADER_SIZE..names];
+    let from = read_usize_at(dir, offset + 8);
+    let size = read_usize_at(dir, offset + 16);
+    let room = bytes.len() - at.lists;
+    if room < from {
+        return true;
+    }
+    if room - from < size {
+        return true;
+    }
+    false
+}
+
 // The list of the entry at an index of the directory.
 pub fn entry_list(bytes: &[u8], at: Layout, i: usize) -> TermList
-    requires { ⌜ Opened-as (now bytes) at × (i < at .terms) ⌝ }
+    requires { ⌜ Entry-lies (now bytes) at i ⌝ }
     ensures { λ r. ⌜ Entry-list (was bytes) at i r ⌝ }
 {
     let names = at.names;
@@ -60,9 +81,9 @@ pub fn entry_list(bytes: &[u8], at: Layout, i: usize) -> TermList
     }
 }
 
-// The list of the term with a name.
+// The list of the term with a name; none where it does not lie in the bytes.
 pub fn find_term(bytes: &[u8], at: Layout, name: &[u8]) -> TermFound
-    requires { ⌜ Opened-as (now bytes) at ⌝ }
+    requires { ⌜ Fits (now bytes) at ⌝ }
     ensures { λ r. ⌜ Term-found (was bytes) at (was name) r ⌝ }
 {
     let names = at.names;
@@ -73,7 +94,12 @@ pub fn find_term(bytes: &[u8], at: Layout, name: &[u8]) -> TermFound
         at.terms,
         name,
     ) {
-        TermEntry::At(i) => TermFound::List(entry_list(bytes, at, i)),
+        TermEntry::At(i) => {
+            if list_outside(bytes, at, i) {
+                return TermFound::Absent;
+            }
+            TermFound::List(entry_list(bytes, at, i))
+        }
         TermEntry::Absent => TermFound::Absent,
     }
 }

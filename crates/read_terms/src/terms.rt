@@ -103,7 +103,7 @@ pub fn decode_term(bytes: &[u8], name: &[u8]) -> Decoding
 }
 
 // The documents of a list at the front of a buffer.
-fn fill_docs(bytes: &[u8], at: usize, df: u32, ids: &mut [u32])
+pub fn fill_docs(bytes: &[u8], at: usize, df: u32, ids: &mut [u32])
     requires { ⌜ length (held-postings df none (drop at (now bytes))) ≤ length (now ids) ⌝ }
     ensures { λ r. ⌜ left ids ≡ fronted (map (λ s. s .doc) (held-postings df none (drop at (was bytes)))) (was ids) ⌝ }
 {

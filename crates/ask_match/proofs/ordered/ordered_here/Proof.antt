@@ -1,24 +1,23 @@
-use mathlib.Core.Path.{_≡_}
 use Prim.Native.Nat.{_+_, _-_, _*_, _^_, _≤_, _<_}
-use lib.ListN.{length, length-set}
 use borrow.Author.Needs.{needs}
 use native.Mathlib.Omega.{arith}
-use Rattle.ask_match.specs.Steps.{among}
+use Rattle.ask_match.specs.Steps.{positions-in, among}
 use Rattle.ask_match.proofs.Chains.{Walk, walk-start, walk-ok, walk-first, walk-below, walk-over, chained-none, chained-some}
 use Rattle.ask_match.proofs.ordered.ordered_here.Statement.{statement}
 use Rattle.ask_match.proofs.ordered.ordered_here.Tie as tie
 
 abbrev Inv-loop : tie.InvT-loop
-Inv-loop bytes n window cs₀ start₀ target₀ i₀ cs start target i =
-    (i ≤ n) × (length cs ≡ 128) × (start < 2 ^ 32) × (target ≤ 2 ^ 32) × Walk n window (among bytes cs₀) bytes cs start target i
+Inv-loop bytes n window at₀ remaining₀ pos₀ start₀ target₀ i₀ at remaining pos start target i =
+    (i ≤ n) × (start < 2 ^ 32) × (target ≤ 2 ^ 32)
+    × Walk n window (among bytes (positions-in at₀ remaining₀ pos₀)) bytes (positions-in at remaining pos) start target i
 
 abbrev μ-loop : tie.MeasureT-loop
-μ-loop bytes n window cs₀ start₀ target₀ i₀ cs start target i = (2 ^ 32 - start) * 129 + (128 - i)
+μ-loop bytes n window at₀ remaining₀ pos₀ start₀ target₀ i₀ at remaining pos start target i = (2 ^ 32 - start) * 129 + (128 - i)
 
-abbrev turn : tie.After-seek Inv-loop μ-loop → tie.At-loop Inv-loop μ-loop
-turn q = q .before .before .before
+abbrev turn : tie.After-seek-in Inv-loop μ-loop → tie.At-loop Inv-loop μ-loop
+turn q = q .before .before .before .before .before
 
-abbrev sought : tie.After-wide Inv-loop μ-loop → tie.After-seek Inv-loop μ-loop
+abbrev sought : tie.After-wide Inv-loop μ-loop → tie.After-seek-in Inv-loop μ-loop
 sought c = c .before .before .before .before
 
 -- the start is not lowered, and stays below 2 ^ 32, as the position does
@@ -26,35 +25,23 @@ firsts : (b : tie.After-begin Inv-loop μ-loop) → let l = turn (sought (b .bef
     (l .start ≤ b .begin .result) × (b .begin .result < 2 ^ 32) × (b .before .wide .result < 2 ^ 32)
 firsts b =
     let q = sought (b .before) in
-    let l = turn q .loop in
-    let h : l .i < length (l .cs) = omega arith in (
-      walk-first (l .inv .4) (q .seek .ensures) (omega arith) h (omega arith) (b .before .wide .ensures) (b .begin .ensures),
-      walk-below (l .inv .4) (q .seek .ensures) (omega arith) h (omega arith) (2 ^ 32) (b .begin .ensures) (omega arith) (omega arith),
-      omega arith,
+    let l = turn q .loop in (
+      walk-first (l .inv .3) (q .seek-in .ensures) (omega arith) (omega arith) (b .before .wide .ensures) (b .begin .ensures),
+      walk-below (l .inv .3) (q .seek-in .ensures) (omega arith) (omega arith) (2 ^ 32) (b .begin .ensures) (omega (arith, q .seek-in .ok))
+          (omega arith),
+      omega (arith, q .seek-in .ok),
     )
 
 loop-holds : tie.Need-loop-holds Inv-loop μ-loop
-loop-holds c = (search needs, search needs, search needs, search needs, walk-start)
+loop-holds c = (search needs, search needs, search needs, walk-start)
 
-mul-c : tie.Need-mul-c Inv-loop μ-loop
-mul-c c = search needs
-
-array-copy-out-c : tie.Need-array-copy-out-c Inv-loop μ-loop
-array-copy-out-c c = search needs
-
-seek-requires : tie.Need-seek-requires Inv-loop μ-loop
-seek-requires c κs = search needs
+seek-in-requires : tie.Need-seek-in-requires Inv-loop μ-loop
+seek-in-requires c κs = search needs
 
 returns : tie.Need-returns Inv-loop μ-loop
 returns c =
     let q = c .before .before in
-    chained-none (turn q .loop .inv .4) (q .seek .ensures) (omega arith) (search needs)
-
-mul-cs : tie.Need-mul-cs Inv-loop μ-loop
-mul-cs c = search needs
-
-array-set-from-cs : tie.Need-array-set-from-cs Inv-loop μ-loop
-array-set-from-cs c = search needs
+    chained-none (turn q .loop .inv .3) (q .seek-in .ensures) (omega arith) (search needs)
 
 wide-requires : tie.Need-wide-requires Inv-loop μ-loop
 wide-requires c κs = search needs
@@ -81,13 +68,11 @@ loop-again : tie.Need-loop-again Inv-loop μ-loop
 loop-again c =
     let b = c .before .before in
     let q = sought (b .before) in
-    let l = turn q .loop in
-    let h : l .i < length (l .cs) = omega arith in (
+    let l = turn q .loop in (
       omega arith,
-      simp length-set (l .inv .1),
       firsts b .1,
       omega (arith, firsts b),
-      walk-ok (l .inv .4) (q .seek .ensures) (omega arith) h (omega arith) (b .before .wide .ensures) (b .begin .ensures) (omega arith),
+      walk-ok (l .inv .3) (q .seek-in .ensures) (omega arith) (omega arith) (b .before .wide .ensures) (b .begin .ensures) (omega arith),
     )
 
 wide-requires-3 : tie.Need-wide-requires-3 Inv-loop μ-loop
@@ -103,17 +88,15 @@ loop-again-2 : tie.Need-loop-again-2 Inv-loop μ-loop
 loop-again-2 c =
     let b = c .before .before .before in
     let q = sought (b .before) in
-    let l = turn q .loop in
-    let h : l .i < length (l .cs) = omega arith in (
+    let l = turn q .loop in (
       omega arith,
-      simp length-set (l .inv .1),
       omega (arith, firsts b),
       omega (arith, firsts b),
-      walk-over (l .inv .4) (q .seek .ensures) (omega arith) h (omega arith) (omega arith),
+      walk-over (l .inv .3) (q .seek-in .ensures) (omega arith) (omega arith) (omega arith),
     )
 
 returns-2 : tie.Need-returns-2 Inv-loop μ-loop
-returns-2 c = chained-some (c .before .loop .inv .4) (omega arith)
+returns-2 c = chained-some (c .before .loop .inv .3) (omega arith)
 
 pub ordered-here-spec : {M : Type 1} → statement M
 ordered-here-spec =
@@ -122,12 +105,8 @@ ordered-here-spec =
     Inv-loop
     μ-loop
     loop-holds
-    mul-c
-    array-copy-out-c
-    seek-requires
+    seek-in-requires
     returns
-    mul-cs
-    array-set-from-cs
     wide-requires
     begin-requires
     wide-requires-2

@@ -6,16 +6,15 @@ use lib.ListN.{length}
 use denote.Ref.{now}
 use borrow.Author.Tests.{eq-eqb}
 use borrow.Author.Needs.{needs}
+use Rattle.common.proofs.Loops.{true-false}
 use Rattle.read_open.specs.declared.header.Layout.{Layout}
 use Rattle.read_open.specs.declared.header.Opening.the-variants as opening
 use Rattle.read_open.specs.Opened.{Opens}
+use Rattle.read_open.proofs.Fitting.{own-fits}
 use Rattle.rules.specs.declared.rule.Rule.{Rule}
 use Rattle.rules.specs.declared.rule.Rule.the-variants as rule
 use Rattle.calls.specs.Questions.{search as question, search-two}
-use Rattle.ask_names.specs.Steps.{Names-resolved}
-use Rattle.ask_search.specs.Steps.{Askable}
 use Rattle.rules.proofs.Idle.{not-idle-is}
-use Rattle.ask_names.proofs.Resolving.{names-none, names-room, names-more}
 use Rattle.ask_search.proofs.Called.{refused, closed, idles, answered, two-reply, two-stops, two-goes}
 use Rattle.ask_search.proofs.questions.near_match.Statement.{statement}
 use Rattle.ask_search.proofs.questions.near_match.Tie as tie
@@ -59,33 +58,6 @@ layout c = c .before .at .given .0 .0
 opens : (c : tie.After-known-told2) → Opens (bytes (before-open c)) (opening.Layout (layout c))
 opens c = rw (c .before .at .given .1) at (c .before .before .before .open-layout .ensures)
 
--- The names resolved
-resolved-none : (c : tie.After-none) → let k = c .before .before in Names-resolved (bytes (before-open k)) (layout k) [] (c .none .result)
-resolved-none c = names-none (c .none .ensures)
-
-resolved-one : (c : tie.After-with) → let k = c .before .before .before .before in
-    Names-resolved (bytes (before-open k)) (layout k) (one (before-open k) ∷ []) (c .with .result)
-resolved-one c =
-    let f = c .before in
-    names-more (resolved-none (f .before)) (one (before-open (f .before .before .before))) (f .find-term .result) (f .find-term .ensures)
-    (c .with .ensures)
-
-abbrev asked : (c : tie.After-with2) → let k = c .before .before .before .before .before .before in
-    Askable (bytes (before-open k)) (layout k) (near (before-open k)) (c .with2 .result)
-asked c =
-    let f = c .before in
-    let e = f .before .before .before .before in
-    let k = e .before in
-    let p = before-open k in
-    record {
-      segment = opens k .0;
-      is-open = opens k .2;
-      names = both p;
-      resolved = names-more (resolved-one (f .before)) (other p) (f .find-term2 .result) (f .find-term2 .ensures) (c .with2 .ensures);
-      few = omega arith;
-      not-idle = not-idle-is (near p) 2 .1 (omega (arith, e .if1 .left));
-    }
-
 check-two-requires : tie.Need-check-two-requires
 check-two-requires c κs = search needs
 
@@ -124,23 +96,12 @@ returns-3 c =
     let p = before-open k in
     two-reply (idles (bytes p) (near p) (both p) (ids p) (goes p) (opens k .1) (eq-eqb _ 0 (c .if1 .taken)))
 
-none-requires : tie.Need-none-requires
-none-requires c κs = search needs
-
-find-term-requires : tie.Need-find-term-requires
-find-term-requires c κs = let k = c .before .before in (opens k .0, opens k .2)
-
-with-requires : tie.Need-with-requires
-with-requires c κs = names-room (resolved-none (c .before)) (omega arith)
-
-find-term-requires-2 : tie.Need-find-term-requires-2
-find-term-requires-2 c κs = let k = c .before .before .before .before in (opens k .0, opens k .2)
-
-with-requires-2 : tie.Need-with-requires-2
-with-requires-2 c κs = names-room (resolved-one (c .before)) (omega arith)
-
-answer-slots-requires : tie.Need-answer-slots-requires
-answer-slots-requires c κs = asked (c .before)
+answer-two-requires : tie.Need-answer-two-requires
+answer-two-requires c κs =
+    let e = c .before in
+    let k = e .before in
+    let p = before-open k in
+    (own-fits (opens k .2), not-idle-is (near p) 2 .1 (omega (arith, e .if1 .left)))
 
 same-length : tie.Need-same-length
 same-length c = search needs
@@ -148,10 +109,11 @@ same-length c = search needs
 returns-4 : tie.Need-returns-4
 returns-4 c =
     let w = c .before .before in
-    let r = w .before .before in
-    let k = r .before .before .before .before .before .before in
+    let k = w .before .before .before in
     let p = before-open k in
-    two-reply (answered (bytes p) (near p) (both p) (ids p) (goes p) (opens k .1) (w .answer-slots .ensures (asked r)))
+    two-reply
+    (answered (bytes p) (near p) (both p) (ids p) (goes p) (opens k .1)
+    (w .answer-two .ensures .plain (opens k .0) (opens k .2) (λ e. true-false (sym e))))
 
 pub near-match-spec : {M : Type 1} → statement M
 near-match-spec =
@@ -166,11 +128,6 @@ near-match-spec =
     enum-known-x-2
     returns-2
     returns-3
-    none-requires
-    find-term-requires
-    with-requires
-    find-term-requires-2
-    with-requires-2
-    answer-slots-requires
+    answer-two-requires
     same-length
     returns-4)

@@ -1,17 +1,17 @@
 use mathlib.Core.Path.{_≡_, sym, _∙_}
 use mathlib.Core.List.{List}
 use Prim.Native.Nat.{ℕ}
-use native.Mathlib.Omega.{arith}
 use lib.ListN.{length}
 use denote.Ref.{now}
 use borrow.Author.Needs.{needs}
+use Rattle.common.proofs.Loops.{true-false}
 use Rattle.segment.specs.declared.checked.Checked.the-variants as check
 use Rattle.read_open.specs.declared.header.Opening.the-variants as opening
 use Rattle.segment.specs.Texts.{names}
 use Rattle.segment.specs.Steps.{checked}
 use Rattle.read_open.specs.Opened.{Opens}
+use Rattle.read_open.proofs.Fitting.{own-fits}
 use Rattle.calls.specs.Questions.{check-question, search as question, search-text}
-use Rattle.ask_search.specs.Steps.{Askable}
 use Rattle.segment.proofs.Shapes.{names-count}
 use Rattle.ask_search.proofs.Called.{refused, closed, idles, answered, text-reply, text-stops, text-goes, text-fits}
 use Rattle.ask_search.proofs.questions.search_text.Statement.{statement}
@@ -47,23 +47,6 @@ before-open c = c .before .before .before .before
 
 opens : (c : tie.After-known-told2) → Opens (bytes (before-open c)) (opening.Layout (c .before .at .given .0 .0))
 opens c = rw (c .before .at .given .1) at (c .before .before .before .open-layout .ensures)
-
--- The names resolved
-abbrev asked : (c : tie.After-resolve) → let k = c .before .before .before in
-    Askable (bytes (before-open k)) (k .before .at .given .0 .0) (start (before-open k) .args .rule) (c .resolve .result)
-asked c =
-    let i = c .before .before in
-    let k = i .before in
-    let p = before-open k in
-    let count = names-count 0 (ends p) (text p) in
-    record {
-      segment = opens k .0;
-      is-open = opens k .2;
-      names = names 0 (ends p) (text p);
-      resolved = c .resolve .ensures;
-      few = omega (arith, count, text-fits (text p) (ends p) (passed p) .1);
-      not-idle = rw count (sym (i .is-idle .ensures) ∙ c .before .if1 .left);
-    }
 
 check-question-requires : tie.Need-check-question-requires
 check-question-requires c κs = search needs
@@ -110,15 +93,12 @@ returns-3 c =
     (idles (bytes p) (start p .args .rule) (names 0 (ends p) (text p)) (ids p) (goes p) (opens k .1)
     (rw (names-count 0 (ends p) (text p)) (sym (c .before .is-idle .ensures) ∙ c .if1 .taken)))
 
-resolve-requires : tie.Need-resolve-requires
-resolve-requires c κs =
-    let k = c .before .before in
+answer-text-requires : tie.Need-answer-text-requires
+answer-text-requires c κs =
+    let k = c .before .before .before in
     let p = before-open k in
     let f = text-fits (text p) (ends p) (passed p) in
-    ((opens k .0, opens k .2), f .0, f .1)
-
-answer-slots-requires : tie.Need-answer-slots-requires
-answer-slots-requires c κs = asked (c .before)
+    (own-fits (opens k .2), f .0, f .1, sym (c .before .before .is-idle .ensures) ∙ c .before .if1 .left)
 
 same-length : tie.Need-same-length
 same-length c = search needs
@@ -126,12 +106,11 @@ same-length c = search needs
 returns-4 : tie.Need-returns-4
 returns-4 c =
     let w = c .before .before in
-    let r = w .before .before in
-    let k = r .before .before .before in
+    let k = w .before .before .before .before in
     let p = before-open k in
     text-reply
     (answered (bytes p) (start p .args .rule) (names 0 (ends p) (text p)) (ids p) (goes p) (opens k .1)
-    (w .answer-slots .ensures (asked r)))
+    (w .answer-text .ensures .plain (opens k .0) (opens k .2) (λ e. true-false (sym e))))
 
 pub search-text-spec : {M : Type 1} → statement M
 search-text-spec =
@@ -147,7 +126,6 @@ search-text-spec =
     returns-2
     is-idle-requires
     returns-3
-    resolve-requires
-    answer-slots-requires
+    answer-text-requires
     same-length
     returns-4)

@@ -1,76 +1,40 @@
--- What is still to be skipped from the reader on ends where all of it ends.
-use mathlib.Core.Path.{_≡_, sym, _∙_}
-use mathlib.Core.List.{List}
-use Prim.Native.Nat.{ℕ, _-_, _≤_}
-use native.Mathlib.Nat.{sub-zero}
-use lib.ListN.{drop}
+-- Numbers of one byte each are skipped at once; all others one by one.
 use denote.Ref.{now}
-use borrow.Author.Needs.{needs}
 use native.Mathlib.Omega.{arith}
-use Rattle.read_cursors.specs.Held.{skipped}
-use Rattle.read_cursors.proofs.Gaps.{skip-next, skip-stop, skip-end}
+use borrow.Author.Needs.{needs}
+use Rattle.read_cursors.specs.Singles.{Singles}
+use Rattle.read_cursors.proofs.Single-numbers.{singles-skipped}
 use Rattle.read_cursors.proofs.values.skip.Statement.{statement}
 use Rattle.read_cursors.proofs.values.skip.Tie as tie
 
-abbrev Inv-loop : tie.InvT-loop
-Inv-loop list count reader₀ i₀ reader i =
-    (i ≤ count) × (skipped (count - i) (drop (reader .at) list) ≡ skipped count (drop (reader₀ .at) list))
+-- what the word told
+ones : (c : tie.Then1) → let n = c .before .before in let a = n .before .before .args in
+    Singles (now (a .list)) (a .from .at) (n .long .result)
+ones c = c .before .all-single .ensures (c .if1 .taken)
 
-abbrev μ-loop : tie.MeasureT-loop
-μ-loop list count reader₀ i₀ reader i = count - i
+long-requires : tie.Need-long-requires
+long-requires c κs = search needs
 
-abbrev bytes : tie.Start Inv-loop μ-loop → List ℕ
-bytes c = now (c .args .list)
+all-single-requires : tie.Need-all-single-requires
+all-single-requires c κs = search needs
 
-loop-holds : tie.Need-loop-holds Inv-loop μ-loop
-loop-holds c = (search needs, rw sub-zero)
+add-t6 : tie.Need-add-t6
+add-t6 c = search (needs, ones (c .before) .room)
 
-decode-u32-requires : tie.Need-decode-u32-requires Inv-loop μ-loop
-decode-u32-requires c κs = search needs
-
-enum-known-number : tie.Need-enum-known-number Inv-loop μ-loop
-enum-known-number c = search needs
-
-enum-told : tie.Need-enum-told Inv-loop μ-loop
-enum-told c = search needs
-
-returns : tie.Need-returns Inv-loop μ-loop
+returns : tie.Need-returns
 returns c =
-    let l = c .before .before .before .before .loop in
-    skip-stop (bytes (c .before .before .before .before .before .before)) _ _ (l .reader .at) (l .inv .1) (omega arith)
-    (sym (c .before .before .decode-u32 .ensures) ∙ c .enum-told .given .1)
+    let n = c .before .before .before in
+    let a = n .before .before .args in
+    rw (← n .long .ensures)
+    (singles-skipped (now (a .list)) (a .from .at) (n .long .result) (ones (c .before)) (n .long .result) (omega arith))
 
-add-i : tie.Need-add-i Inv-loop μ-loop
-add-i c = search needs
+skip-each-requires : tie.Need-skip-each-requires
+skip-each-requires c κs = search needs
 
-loop-less : tie.Need-loop-less Inv-loop μ-loop
-loop-less c = search needs
-
-loop-again : tie.Need-loop-again Inv-loop μ-loop
-loop-again c =
-    let l = c .before .before .before .before .before .before .loop in (
-      omega arith,
-      skip-next (bytes (c .before .before .before .before .before .before .before .before)) _ _ (l .reader .at) (l .inv .1) (omega arith)
-          (sym (c .before .before .before .before .decode-u32 .ensures) ∙ c .before .before .number .given .1),
-    )
-
-returns-2 : tie.Need-returns-2 Inv-loop μ-loop
-returns-2 c =
-    let l = c .before .loop in
-    skip-end (bytes (c .before .before .before)) _ _ (l .reader .at) (l .inv .1) (omega arith)
+returns-2 : tie.Need-returns-2
+returns-2 c = search needs
 
 pub skip-spec : {M : Type 1} → statement M
 skip-spec =
     tie.close
-    (tie.spec
-    Inv-loop
-    μ-loop
-    loop-holds
-    decode-u32-requires
-    enum-known-number
-    enum-told
-    returns
-    add-i
-    loop-less
-    loop-again
-    returns-2)
+    (tie.spec long-requires all-single-requires add-t6 returns skip-each-requires returns-2)

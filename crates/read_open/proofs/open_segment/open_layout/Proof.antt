@@ -6,8 +6,9 @@ use borrow.Author.Needs.{needs}
 use Rattle.read_open.specs.declared.header.Layout.{Layout}
 use Rattle.segment.specs.Results.{ok}
 use Rattle.segment.specs.Opening.{sections}
+use Rattle.read_open.specs.Layouts.{layout-in}
 use Rattle.read_open.specs.Steps.{Sections-follow, cut}
-use Rattle.read_open.proofs.Sections.{of-refusal, of-layout, layout-order}
+use Rattle.read_open.proofs.Sections.{of-refusal, of-layout, layout-order, layout-numbers}
 use Rattle.read_open.proofs.Openings.{no-sections, bad-checksum, bad-contents, opens}
 use Rattle.read_open.proofs.open_segment.open_layout.Statement.{statement}
 use Rattle.read_open.proofs.open_segment.open_layout.Tie as tie
@@ -24,6 +25,9 @@ cuts c = of-layout (c .before .before .before .read-header .ensures) (c .before 
 
 ordered : (c : tie.After-known-told) → Sections-follow (bytes c) (layout c)
 ordered c = layout-order (c .before .before .before .read-header .ensures) (c .before .at .given .1)
+
+numbered : (c : tie.After-known-told) → layout c ≡ layout-in (bytes c)
+numbered c = layout-numbers (c .before .before .before .read-header .ensures) (c .before .at .given .1)
 
 read-header-requires : tie.Need-read-header-requires
 read-header-requires c κs = search needs
@@ -64,7 +68,7 @@ returns-3 : tie.Need-returns-3
 returns-3 c =
     let k = c .before .before .before .before .before .before in
     opens _ _ (cuts k) (sym (c .before .before .before .enum-told .given .1)
-    ∙ c .before .before .before .before .before .check-sections .ensures) (ordered k)
+    ∙ c .before .before .before .before .before .check-sections .ensures) (ordered k) (numbered k)
     (sym (c .enum-told2 .given .1) ∙ c .before .before .check-contents .ensures)
 
 returns-4 : tie.Need-returns-4

@@ -6,17 +6,17 @@ use native.Mathlib.Omega.{arith}
 use borrow.Author.Needs.{needs}
 use Rattle.segment.specs.Records.{field}
 use Rattle.read_open.specs.Steps.{cut}
-use Rattle.read_terms.proofs.Finding.{entry-inside, list-ends, entry-listed}
+use Rattle.read_terms.proofs.Finding.{entry-within, list-ends, entry-listed}
 use Rattle.read_terms.proofs.find.entry_list.Statement.{statement}
 use Rattle.read_terms.proofs.find.entry_list.Tie as tie
 
 -- The entry lies in the directory, and its list in the bytes
 within : (c : tie.Start) → c .args .i * 32 + 32 ≤ length (cut (now (c .args .bytes)) (c .args .at) .directory)
-within c = entry-inside (c .pre .0) (c .args .i) (c .pre .1) .entry
+within c = entry-within (c .pre .fits) (c .args .i) (c .pre .below)
 
 ends : (c : tie.Start) → let dir = cut (now (c .args .bytes)) (c .args .at) .directory in
     c .args .at .lists + field 8 (c .args .i * 32 + 8) dir + field 8 (c .args .i * 32 + 16) dir ≤ length (now (c .args .bytes))
-ends c = list-ends (c .pre .0) (c .args .i) (c .pre .1)
+ends c = list-ends (c .pre)
 
 mul-offset : tie.Need-mul-offset
 mul-offset c = omega (arith, within (c .before))
@@ -67,7 +67,7 @@ returns c =
     let y = z .before in
     let e = y .before .before .before in
     let at = e .args .at .lists in
-    entry-listed (e .pre .0) (e .args .i) (e .pre .1) _ refl (ap (_+_ at) (y .read-usize-at .ensures))
+    entry-listed (e .pre) _ refl (ap (_+_ at) (y .read-usize-at .ensures))
     (ap (_+_ (at + y .read-usize-at .result)) (z .read-usize-at2 .ensures)) (u .read-u32-at .ensures) (c .read-u32-at2 .ensures)
 
 pub entry-list-spec : {M : Type 1} → statement M

@@ -5,6 +5,7 @@ use Rattle.segment.specs.declared.checked.Checked.the-variants.{Passed}
 use Rattle.read_open.specs.declared.header.Opening.the-variants as opening
 use Rattle.segment.specs.Steps.{checked}
 use Rattle.read_open.specs.Opened.{Opens}
+use Rattle.read_open.proofs.Fitting.{own-fits}
 use Rattle.calls.specs.Lookups.{well-named}
 use Rattle.read_terms.specs.declared.find.TermFound.the-variants as found
 use Rattle.read_terms.specs.Steps.{Term-found}
@@ -58,7 +59,7 @@ returns-2 c =
     (rw (c .before .x2 .given .1) at (o .open-layout .ensures))
 
 find-term-requires : tie.Need-find-term-requires
-find-term-requires c κs = (opens c .0, opens c .2)
+find-term-requires c κs = own-fits (opens c .2)
 
 enum-known-list : tie.Need-enum-known-list
 enum-known-list c = search needs

@@ -5,6 +5,7 @@ use Rattle.segment.specs.declared.checked.Checked.the-variants.{Passed}
 use Rattle.read_open.specs.declared.header.Opening.the-variants as opening
 use Rattle.segment.specs.Steps.{checked}
 use Rattle.read_open.specs.Opened.{Opens}
+use Rattle.read_open.proofs.Fitting.{own-fits}
 use Rattle.calls.specs.Lookups.{well-named}
 use Rattle.read_terms.proofs.Asking.{df-unnamed, df-shut, df-absent, df-found}
 use Rattle.read_terms.proofs.terms.df.Statement.{statement}
@@ -39,7 +40,7 @@ enum-known-at : tie.Need-enum-known-at
 enum-known-at c = search needs
 
 find-term-requires : tie.Need-find-term-requires
-find-term-requires c κs = (opens c .0, opens c .2)
+find-term-requires c κs = own-fits (opens c .2)
 
 enum-known-list : tie.Need-enum-known-list
 enum-known-list c = search needs

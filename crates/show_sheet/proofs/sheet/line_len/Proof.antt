@@ -10,6 +10,7 @@ use Rattle.segment.specs.Records.{between}
 use Rattle.segment.specs.Postings.{decode}
 use Rattle.show_columns.proofs.Names.{name-most}
 use Rattle.show_listing.proofs.Texts.{name-inside, name-between}
+use Rattle.read_terms.proofs.Finding.{own-entry}
 use Rattle.show_sheet.specs.Steps.{documents-in}
 use Rattle.show_sheet.proofs.Entries.{line-refused, line-silent, line-measured}
 use Rattle.show_sheet.proofs.sheet.line_len.Statement.{statement}
@@ -28,7 +29,7 @@ told : (h : tie.After-hits) → let e = h .before .before .before in
 told h = sym (h .hits .given .1) ∙ h .before .before .decode-postings-for .ensures
 
 entry-list-requires : tie.Need-entry-list-requires
-entry-list-requires c κs = search needs
+entry-list-requires c κs = let s = c .before in own-entry (s .pre .0 .opened) (s .args .i) (s .pre .1)
 
 decode-postings-for-requires : tie.Need-decode-postings-for-requires
 decode-postings-for-requires c κs = search needs

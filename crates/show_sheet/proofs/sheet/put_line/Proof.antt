@@ -5,6 +5,7 @@ use borrow.Author.Needs.{needs}
 use Rattle.segment.specs.Records.{between}
 use Rattle.read_open.specs.Steps.{cut, name-at, Entry-inside, Sections-follow}
 use Rattle.show_listing.proofs.Texts.{name-inside, name-between}
+use Rattle.read_terms.proofs.Finding.{own-entry}
 use Rattle.show_sheet.proofs.Entries.{not-drawn, hits-many, hits-small, line-drawn, line-room}
 use Rattle.show_sheet.proofs.sheet.put_line.Statement.{statement}
 use Rattle.show_sheet.proofs.sheet.put_line.Tie as tie
@@ -29,7 +30,7 @@ named n =
     name-between (cut (now (a .bytes)) (a .at) .directory) (cut (now (a .bytes)) (a .at) .names) (a .i) (n .entry-name .ensures)
 
 entry-list-requires : tie.Need-entry-list-requires
-entry-list-requires c κs = search needs
+entry-list-requires c κs = let s = c .before .before in own-entry (s .pre .0 .opened) (s .args .i) (s .pre .1)
 
 start-requires : tie.Need-start-requires
 start-requires c κs = search needs

@@ -12,8 +12,8 @@ returns c =
     let a = c .before .before .args in
     record { list = enter-none (now (a .meta)) (a .from .at) _ (a .remaining) _ _ _ (c .if1 .taken); less = search needs }
 
-read-document-requires : tie.Need-read-document-requires
-read-document-requires c κs = search needs
+read-document-each-requires : tie.Need-read-document-each-requires
+read-document-each-requires c κs = search needs
 
 enum-known-d : tie.Need-enum-known-d
 enum-known-d c = search needs
@@ -25,15 +25,15 @@ returns-2 : tie.Need-returns-2
 returns-2 c =
     let a = c .before .before .before .before .before .before .before .before .args in
     let d = c .before .before .before in
-    let e = sym (d .before .before .read-document .ensures) ∙ ap (document-means (now (a .meta))) (d .d .given .1) in
+    let e = sym (d .before .before .read-document-each .ensures) ∙ ap (document-means (now (a .meta))) (d .d .given .1) in
     record { list = enter-next (now (a .meta)) (a .from .at) _ (a .index) (a .remaining) _ _ _ e; less = search needs }
 
 returns-3 : tie.Need-returns-3
 returns-3 c =
     let a = c .before .before .before .before .before .args in
-    let e = sym (c .before .before .read-document .ensures) ∙ ap (document-means (now (a .meta))) (c .enum-told .given .1) in
+    let e = sym (c .before .before .read-document-each .ensures) ∙ ap (document-means (now (a .meta))) (c .enum-told .given .1) in
     record { list = enter-refused (now (a .meta)) (a .from .at) _ (a .index) (a .remaining) _ _ _ e; less = search needs }
 
 pub enter-spec : {M : Type 1} → statement M
 enter-spec =
-    tie.close (tie.spec returns read-document-requires enum-known-d enum-told returns-2 returns-3)
+    tie.close (tie.spec returns read-document-each-requires enum-known-d enum-told returns-2 returns-3)

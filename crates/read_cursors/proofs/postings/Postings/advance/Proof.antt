@@ -1,43 +1,37 @@
-use mathlib.Core.Path.{ap, _∙_}
-use mathlib.Core.Option.{some}
-use Prim.Native.Nat.{_-_}
+-- Where all is short the cursor is advanced at once, else number by number.
 use denote.Ref.{now}
-use native.Mathlib.Omega.{arith}
 use borrow.Author.Needs.{needs}
-use Rattle.read_cursors.specs.Held.{held-postings}
-use Rattle.read_cursors.proofs.Seeks.{rest-none}
-use Rattle.read_cursors.proofs.Entering.{postings-ahead, postings-past}
+use Rattle.read_cursors.proofs.Quick-steps.{sure-posting}
 use Rattle.read_cursors.proofs.postings.Postings.advance.Statement.{statement}
 use Rattle.read_cursors.proofs.postings.Postings.advance.Tie as tie
 
+advance-short-requires : tie.Need-advance-short-requires
+advance-short-requires c κs = search needs
+
+enum-known-next : tie.Need-enum-known-next
+enum-known-next c = search needs
+
+enum-told : tie.Need-enum-told
+enum-told c = search needs
+
+advance-each-requires : tie.Need-advance-each-requires
+advance-each-requires c κs = search needs
+
 returns : tie.Need-returns
 returns c =
-    let a = c .before .before .before .args in
-    let p = a .self in
-    record {
-      holds = rest-none (postings-ahead (now (a .bytes)) (p .remaining) (p .at) (p .count) (p .doc .0)) (c .if1 .taken);
-      less = omega arith;
-    }
-
-skip-requires : tie.Need-skip-requires
-skip-requires c κs = search needs
-
-sub-enter : tie.Need-sub-enter
-sub-enter c = search needs
-
-enter-requires : tie.Need-enter-requires
-enter-requires c κs = search needs
+    let k = c .before .before .before in
+    sure-posting (now (k .before .before .args .bytes)) _ (k .advance-short .ensures) (c .before .next .given .1)
 
 returns-2 : tie.Need-returns-2
-returns-2 c =
-    let k = c .before .before in
-    let a = k .before .before .before .before .args in
-    let p = a .self in
-    record {
-      holds = c .enter .ensures .holds ∙ ap (held-postings (p .remaining - 1) (some (p .doc .0))) (k .skip .ensures)
-          ∙ postings-past (now (a .bytes)) (p .remaining) (p .at) (p .count) (p .doc .0) (k .before .if1 .left);
-      less = c .enter .ensures .less;
-    }
+returns-2 c = search needs
 
 pub advance-spec : {M : Type 1} → statement M
-advance-spec = tie.close (tie.spec returns skip-requires sub-enter enter-requires returns-2)
+advance-spec =
+    tie.close
+    (tie.spec
+    advance-short-requires
+    enum-known-next
+    enum-told
+    advance-each-requires
+    returns
+    returns-2)

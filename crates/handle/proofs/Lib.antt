@@ -1,0 +1,4 @@
+-- Laws that belong to no one function, lowest first.
+pub mod Lists
+pub mod Sure
+pub mod Handles
