@@ -1,9 +1,10 @@
 /* Positional segments: documents, terms and positions in one sequence of bytes, and the search over them.
  *
  * In a drum machine a document is a bar, a term a sound, a position a step. The calls are those of src/positional/raw.rs of
- * arclabs561/postings (see NOTICE), ported to Rattle and proved, and beyond them pstp_midi_bars, which reads bars from a MIDI file, and
- * pstp_bar_sheet, which shows a bar in lines of text. docs/FORMAT.md describes the format, the order of the checks and the rules of the
- * search; docs/GLOSSARY.md explains the words. Link with libpstp.a (`rt staticlib pstp`, x86-64 Linux). C99 and C++.
+ * arclabs561/postings (see NOTICE), ported to Rattle and proved, and beyond them pstp_midi_bars, which reads bars from a MIDI file,
+ * pstp_bar_sheet, which shows a bar in lines of text, and the calls with a handle (pstp_check), for a segment that is checked once and
+ * asked often. docs/FORMAT.md describes the format, the order of the checks and the rules of the search; docs/GLOSSARY.md explains the
+ * words. Link with libpstp.a (`rt staticlib pstp`, x86-64 Linux). C99 and C++.
  *
  * What every call guarantees
  *
@@ -13,8 +14,8 @@
  *    kind is a refusal: kind, which and index say what was refused, first to fourth are 0, and every lent buffer is unchanged.
  *  - After acceptance an answer of n elements fills the first n elements of its buffer; the elements behind them are unchanged.
  *  - No call allocates memory, opens a file or keeps state, and all calls are thread-safe. No pointer is kept after the return.
- *  - Stack: under 64 KiB for the searches, under 16 KiB for pstp_midi_bars and pstp_bar_sheet (tables of 128 places), under 4 KiB for every
- *    other call. This is measured (tests/c/stack.c), not proved.
+ *  - Stack: under 36 KiB for the searches, under 16 KiB for a search with a checked handle and for pstp_check, pstp_midi_bars and
+ *    pstp_bar_sheet (tables of 128 places), under 4 KiB for every other call. This is measured (tests/c/stack.c), not proved.
  *
  * What the caller must ensure
  *
@@ -29,8 +30,8 @@
  *
  *  Lend an empty buffer: PSTP_NO_ROOM returns in `which` the first buffer that is too short (from 1, in the order of the parameters) and
  *  in `index` the length it needs. An answer of no elements is accepted at once. Or lend what is always enough and save the second call
- *  (each call opens and checks the whole segment again): for ids, lengths and counts, the number of documents that pstp_open returns.
- *  pstp_midi_bars and pstp_bar_sheet say themselves what is always enough.
+ *  (each call without a handle opens and checks the whole segment again): for ids, lengths and counts, the number of documents that
+ *  pstp_open returns and an accepted handle has. pstp_midi_bars and pstp_bar_sheet say themselves what is always enough.
  */
 #ifndef PSTP_H
 #define PSTP_H
@@ -209,6 +210,90 @@ pstp_reply pstp_near_match(const uint8_t *segment, size_t segment_len, const uin
 pstp_reply pstp_near_match_terms_strs(const uint8_t *segment, size_t segment_len, const uint8_t *text, size_t text_len,
                                       const uint32_t *ends, size_t ends_len, uint32_t window, bool ordered, uint32_t *ids,
                                       size_t ids_len);
+
+/* Checked once, asked often
+ *
+ * Each call above opens the segment again, which reads all of it, and decodes the lists that it needs. Who has many questions to one
+ * segment has it checked once, keeps the handle, and passes it to the calls of the same names with _checked, which leave out what the
+ * handle vouches for:
+ *
+ *  - If the handle is what pstp_check or pstp_open_once returned for these bytes, a refused handle included, the reply and every lent
+ *    buffer are those of the call without _checked.
+ *  - For any bytes and any handle, also one of other bytes or made up, the call ends and reads inside the slices; a refusal leaves every
+ *    lent buffer unchanged; an accepted answer fits its buffers, and the elements behind it are unchanged. What it answers is then not
+ *    said.
+ *
+ * A handle is numbers only and points to nothing: it may be copied, kept and sent, and never needs to be released. It knows nothing of what
+ * happens to the bytes: who changes them must check again.
+ */
+
+/* Levels: `level` of a handle. */
+enum {
+    PSTP_LEVEL_REFUSED = 0, /* the segment, or with pstp_check one of its lists, is refused */
+    PSTP_LEVEL_OPENED = 1,  /* the segment opens; lists are decoded for each question, as without a handle */
+    PSTP_LEVEL_CHECKED = 2  /* the segment opens and every list decodes: nothing is checked again */
+};
+
+/* A handle, returned and passed by value. */
+typedef struct pstp_handle {
+    uint32_t kind;      /* PSTP_ACCEPTED, or the kind of the refusal, with which and index as in a reply; then all from level on are 0 */
+    uint32_t which;     /* refusal: a section or a reason, depending on the kind; otherwise 0 */
+    uint64_t index;     /* refusal: a value or an index, depending on the kind; otherwise 0 */
+    uint32_t level;     /* PSTP_LEVEL_.. */
+    uint32_t documents; /* accepted: number of documents */
+    uint32_t terms;     /* accepted: number of terms */
+    uint32_t spare;     /* 0 */
+    size_t names;       /* accepted: the offset in the segment where the names begin */
+    size_t metadata;    /* accepted: where the metadata begins */
+    size_t lists;       /* accepted: where the lists begin */
+} pstp_handle;
+
+/* Opens a segment as pstp_open does, at the same cost.
+ * A handle with PSTP_LEVEL_OPENED. It serves a segment of which some list does not decode, or one that is asked little.
+ * Refusals, as kind, which and index of a handle with PSTP_LEVEL_REFUSED: opening. */
+pstp_handle pstp_open_once(const uint8_t *segment, size_t segment_len);
+
+/* Opens a segment and decodes the list of every term.
+ * A handle with PSTP_LEVEL_CHECKED.
+ * Refusals, as kind, which and index of a handle with PSTP_LEVEL_REFUSED: opening; decoding the list of every term in the order of the
+ * directory. The calls below accept such a handle and answer as without one: a name whose list decodes is found, whatever list is
+ * refused. */
+pstp_handle pstp_check(const uint8_t *segment, size_t segment_len);
+
+/* The eight calls with a handle. Each is lent the same buffers as the call without _checked, and with a handle of these bytes has its first
+ * and second, and its refusals in their order. */
+
+/* One document's length: as pstp_document_len. */
+pstp_reply pstp_document_len_checked(const uint8_t *segment, size_t segment_len, pstp_handle handle, uint32_t id);
+
+/* The number of documents that contain a term, as stored in the directory: as pstp_df. */
+pstp_reply pstp_df_checked(const uint8_t *segment, size_t segment_len, pstp_handle handle, const uint8_t *name, size_t name_len);
+
+/* The documents that contain a term: as pstp_docs_with_term. */
+pstp_reply pstp_docs_with_term_checked(const uint8_t *segment, size_t segment_len, pstp_handle handle, const uint8_t *name,
+                                       size_t name_len, uint32_t *ids, size_t ids_len);
+
+/* A term's postings: as pstp_term_postings. */
+pstp_reply pstp_term_postings_checked(const uint8_t *segment, size_t segment_len, pstp_handle handle, const uint8_t *name,
+                                      size_t name_len, uint32_t *ids, size_t ids_len, uint32_t *counts, size_t counts_len,
+                                      uint32_t *positions, size_t positions_len);
+
+/* A term's positions in one document: as pstp_positions. */
+pstp_reply pstp_positions_checked(const uint8_t *segment, size_t segment_len, pstp_handle handle, const uint8_t *name, size_t name_len,
+                                  uint32_t id, uint32_t *positions, size_t positions_len);
+
+/* Phrase: as pstp_phrase_match_strs. */
+pstp_reply pstp_phrase_match_strs_checked(const uint8_t *segment, size_t segment_len, pstp_handle handle, const uint8_t *text,
+                                          size_t text_len, const uint32_t *ends, size_t ends_len, uint32_t *ids, size_t ids_len);
+
+/* Two names near each other: as pstp_near_match. */
+pstp_reply pstp_near_match_checked(const uint8_t *segment, size_t segment_len, pstp_handle handle, const uint8_t *a, size_t a_len,
+                                   const uint8_t *b, size_t b_len, uint32_t window, uint32_t *ids, size_t ids_len);
+
+/* Names near each other, ordered or not: as pstp_near_match_terms_strs. */
+pstp_reply pstp_near_match_terms_strs_checked(const uint8_t *segment, size_t segment_len, pstp_handle handle, const uint8_t *text,
+                                              size_t text_len, const uint32_t *ends, size_t ends_len, uint32_t window, bool ordered,
+                                              uint32_t *ids, size_t ids_len);
 
 /* Writes documents and terms as a segment to the beginning of out.
  * first: the segment's length in bytes.

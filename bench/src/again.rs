@@ -1,8 +1,9 @@
 //! One call of the library over and over, for a profiler:  bench again CALL DOCUMENTS TIMES
-//! or, with the name of a MIDI file for the call and the length of the long ones for the documents, midi_bars.
+//! or, with the name of a MIDI file for the call and the length of the long ones for the documents, midi_bars;
+//! and one question to a segment that was checked once:  bench checked QUESTION BARS TIMES
 use crate::library::{self, Buffers};
 use crate::originals::fast;
-use crate::{calls, data, measure, midi};
+use crate::{calls, data, handles, measure, midi, words};
 
 fn report(taken: Vec<f64>) {
     let least = taken.iter().copied().fold(f64::INFINITY, f64::min);
@@ -31,4 +32,15 @@ pub fn again(name: &str, documents: usize, times: usize) {
         taken.push(time);
     }
     report(taken);
+}
+
+pub fn checked(name: &str, bars: usize, times: usize) {
+    let lists = words::bars(bars, bars as u64).lists();
+    let bytes = fast::write(&fast::given(&lists));
+    let mut buffers = Buffers::new(bars, lists.positions.len());
+    let questions = words::questions().into_iter().chain(words::reads(lists.ids[bars / 2]));
+    let question = questions.into_iter().find(|question| question.name == name).expect("a question of the table");
+    let handle = handles::check(&bytes);
+    let mut ask = || measure::once(|| handles::ask(&question.call, &bytes, handle, &mut buffers)).0;
+    report((0..times).map(|_| ask()).collect());
 }

@@ -1,5 +1,5 @@
 //! The calls that are timed, and what they answer.
-use crate::library::{self, Buffers};
+use crate::library::{self, Buffers, Reply};
 
 /// Names as the library takes them, one text with ends, and as the Rust does.
 pub struct Names {
@@ -89,6 +89,11 @@ pub struct Answer {
 /// The library's answer; a refusal is a fault here.
 pub fn answer(call: &Call, s: &[u8], b: &mut Buffers) -> Answer {
     let r = library::ask(call, s, b);
+    answered(call, r, b)
+}
+
+/// What a reply says, with the buffers that its call filled.
+pub fn answered(call: &Call, r: Reply, b: &Buffers) -> Answer {
     assert_eq!(r.kind, 0, "{} is refused: {r:?}", call.name());
     let first = r.first as usize;
     let mut text = Vec::new();

@@ -20,14 +20,14 @@ fn eight_steps(bytes: &[u8]) -> u32 {
         remainder ^= *byte as u32;
         for _ in 0..8 {
             remainder = if remainder & 1 == 1 { remainder >> 1 ^ 0xEDB8_8320 } else { remainder >> 1 };
-            unsafe { std::arch::asm!("/* {0} */", inout(reg) remainder, options(pure, nomem, nostack)) };
+            unsafe { std::arch::asm!("/* {0:e} */", inout(reg) remainder, options(pure, nomem, nostack)) };
         }
     }
     !remainder
 }
 
 /// One document with one sound, on so many steps that are 1 to 127 apart: a byte for each.
-fn one_list(positions: usize) -> Lists {
+pub fn one_list(positions: usize) -> Lists {
     let steps = (0..positions as u32).scan(0, |step, i| {
         *step += 1 + i * 37 % 127;
         Some(*step)

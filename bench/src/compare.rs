@@ -2,7 +2,7 @@
 use crate::calls::{self, Call};
 use crate::data;
 use crate::library::{self, Buffers};
-use crate::measure::{median, rounds};
+use crate::measure::{median, rounds, Timed};
 use crate::originals::{fast, table};
 use std::hint::black_box;
 
@@ -52,11 +52,11 @@ pub fn time_call(call: &Call, bytes: &[u8], buffers: &mut Buffers, count: usize)
     Row { name: call.name(), whole: [of(0), of(2), of(3)], apart: [less, of(4), of(5)] }
 }
 
-/// The writer, from lists in the form of each side.
-fn time_write(lists: &data::Lists, out: &mut [u8], count: usize) -> Row {
+/// The writer, from lists in the form of each side: the library, the Rust, the Rust with a table.
+pub fn time_write(lists: &data::Lists, out: &mut [u8], count: usize) -> Timed {
     let quick = fast::given(lists);
     let slow = table::given(lists);
-    let times = rounds(
+    Timed(rounds(
         count,
         &mut [
             &mut || {
@@ -65,10 +65,7 @@ fn time_write(lists: &data::Lists, out: &mut [u8], count: usize) -> Row {
             &mut || drop(black_box(fast::write(black_box(&quick)))),
             &mut || drop(black_box(table::write(black_box(&slow)))),
         ],
-    );
-    let of = |i: usize| median(times[i].iter().copied());
-    let whole = [of(0), of(1), of(2)];
-    Row { name: "write".into(), whole, apart: whole }
+    ))
 }
 
 /// Everything at one size, or one call. The answers are compared first.
@@ -90,7 +87,9 @@ pub fn size(documents: usize, count: usize, only: Option<&str>) -> Size {
     }
     if wanted("write") {
         eprintln!("{documents} documents: write");
-        rows.push(time_write(&lists, &mut out, count));
+        let times = time_write(&lists, &mut out, count);
+        let whole = [times.of(0), times.of(1), times.of(2)];
+        rows.push(Row { name: "write".into(), whole, apart: whole });
     }
     Size { documents, postings: lists.posting_ids.len(), positions: lists.positions.len(), bytes: bytes.len(), rows }
 }

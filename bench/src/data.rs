@@ -18,10 +18,17 @@ impl Lists {
     pub fn room(&self) -> usize {
         72 + 32 * self.ends.len() + self.text.len() + 10 * (self.ids.len() + self.posting_ids.len()) + 5 * self.positions.len()
     }
+
+    /// The names in directory order.
+    pub fn names(&self) -> Vec<&str> {
+        let text = std::str::from_utf8(&self.text).expect("UTF-8");
+        let starts = [0].into_iter().chain(self.ends.iter().copied());
+        starts.zip(&self.ends).map(|(from, to)| &text[from as usize..*to as usize]).collect()
+    }
 }
 
 /// A sound, and how often it is hit.
-type Sound = (&'static str, u32);
+pub type Sound = (&'static str, u32);
 
 /// The sounds in byte order, each with how often it is hit among 121 hits.
 const SOUNDS: [Sound; 24] = [
@@ -67,7 +74,8 @@ impl Random {
     }
 }
 
-fn sound(random: &mut Random, sounds: &[Sound]) -> usize {
+/// A sound, each as often as it is hit.
+pub fn sound(random: &mut Random, sounds: &[Sound]) -> usize {
     let mut left = random.below(sounds.iter().map(|s| s.1).sum());
     sounds
         .iter()
@@ -121,16 +129,12 @@ pub fn scattered(count: usize, names: &[&'static str]) -> Lists {
 
 fn made(count: usize, sounds: &[Sound], longest: u32, with_fill: bool) -> Lists {
     let mut random = Random(count as u64);
-    let mut terms: Vec<Lists> = (0..sounds.len()).map(|_| Lists::default()).collect();
-    let mut lists = Lists::default();
+    let mut gathered = Gathered::new(sounds.len());
     let mut id = 0;
-    let mut hits: Vec<(usize, u32)> = Vec::new();
     for bar in 0..count {
         id += 1 + random.below(3);
         let length = 16 * (1 + random.below(longest));
-        lists.ids.push(id);
-        lists.lengths.push(length);
-        hits.clear();
+        let mut hits = Vec::new();
         for _ in 0..8 + random.below(5) {
             hits.push((sound(&mut random, sounds), random.below(length)));
         }
@@ -141,22 +145,46 @@ fn made(count: usize, sounds: &[Sound], longest: u32, with_fill: bool) -> Lists 
                 hits.push((term, start + i as u32));
             }
         }
+        gathered.bar(id, length, hits);
+    }
+    gathered.whole(sounds)
+}
+
+/// Bars as they come, and the postings of each sound so far.
+pub struct Gathered {
+    lists: Lists,
+    terms: Vec<Lists>,
+}
+
+impl Gathered {
+    pub fn new(sounds: usize) -> Gathered {
+        Gathered { lists: Lists::default(), terms: (0..sounds).map(|_| Lists::default()).collect() }
+    }
+
+    /// A bar and its hits: sound and step of each, in any order, the same one any number of times.
+    pub fn bar(&mut self, id: u32, length: u32, mut hits: Vec<(usize, u32)>) {
+        self.lists.ids.push(id);
+        self.lists.lengths.push(length);
         hits.sort_unstable();
         hits.dedup();
         for of_term in hits.chunk_by(|a, b| a.0 == b.0) {
-            let term = &mut terms[of_term[0].0];
+            let term = &mut self.terms[of_term[0].0];
             term.posting_ids.push(id);
             term.position_counts.push(of_term.len() as u32);
             term.positions.extend(of_term.iter().map(|hit| hit.1));
         }
     }
-    for (term, sound) in terms.iter().zip(sounds) {
-        lists.text.extend_from_slice(sound.0.as_bytes());
-        lists.ends.push(lists.text.len() as u32);
-        lists.posting_counts.push(term.posting_ids.len() as u32);
-        lists.posting_ids.extend(&term.posting_ids);
-        lists.position_counts.extend(&term.position_counts);
-        lists.positions.extend(&term.positions);
+
+    pub fn whole(self, sounds: &[Sound]) -> Lists {
+        let mut lists = self.lists;
+        for (term, sound) in self.terms.iter().zip(sounds) {
+            lists.text.extend_from_slice(sound.0.as_bytes());
+            lists.ends.push(lists.text.len() as u32);
+            lists.posting_counts.push(term.posting_ids.len() as u32);
+            lists.posting_ids.extend(&term.posting_ids);
+            lists.position_counts.extend(&term.position_counts);
+            lists.positions.extend(&term.positions);
+        }
+        lists
     }
-    lists
 }

@@ -14,9 +14,9 @@ pub struct Reply {
     pub fourth: u64,
 }
 
-type Bytes = *const u8;
-type Numbers = *const u32;
-type Lent = *mut u32;
+pub type Bytes = *const u8;
+pub type Numbers = *const u32;
+pub type Lent = *mut u32;
 
 extern "C" {
     fn pstp_open(s: Bytes, n: usize) -> Reply;
@@ -105,6 +105,11 @@ pub struct Buffers {
 impl Buffers {
     pub fn new(documents: usize, positions: usize) -> Buffers {
         Buffers { ids: vec![0; documents], seconds: vec![0; documents], positions: vec![0; positions], sheet: vec![0; 5001 * 81] }
+    }
+
+    /// Other numbers than an answer's, so that one that is not filled in does not pass for the one before.
+    pub fn wipe(&mut self) {
+        [&mut self.ids, &mut self.seconds, &mut self.positions].into_iter().for_each(|lent| lent.fill(u32::MAX));
     }
 }
 

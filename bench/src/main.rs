@@ -2,33 +2,46 @@
 //!   bench CODE CONSTANTS [--quick]     bytes of machine code and of constants in the library
 //!   bench again CALL DOCUMENTS TIMES   one call of the library over and over, for a profiler
 //!   bench one CALL DOCUMENTS ROUNDS    one call on both sides
+//!   bench checked QUESTION BARS TIMES  one question to a segment that was checked once, over and over
+//!   bench often [--quick]              questions to a segment that is opened each time, opened once or checked once
 //!   bench limits                       the lists at their limits
 //!   bench midi                         bars from MIDI files
 //!   bench sheet                        a bar on paper
 //!   bench checksum                     bytes a second
 //!   bench stack                        the stack of every call
-//! Read in this order: data, calls, library, drawn, originals, measure, compare, checksum, limits, plain, midi, sheet, stack, report, text.
+//! Read in this order: data, calls, library, drawn, originals, measure, compare, checksum, limits, plain, midi, sheet, stack, report, text;
+//! then words, handles, fts5, often, growth, report_often.
 mod again;
 mod calls;
 mod checksum;
 mod compare;
 mod data;
 mod drawn;
+#[cfg(sqlite)]
+mod fts5;
+#[cfg(not(sqlite))]
+#[path = "no_fts5.rs"]
+mod fts5;
+mod growth;
+mod handles;
 mod library;
 mod limits;
 mod measure;
 mod midi;
+mod often;
 mod originals;
 mod plain;
 mod report;
+mod report_often;
 mod sheet;
 mod stack;
 mod text;
+mod words;
 
 use std::hint::black_box;
 
-/// The stack of every call, over 1,000 documents.
-fn depths() -> Vec<(String, usize)> {
+/// The stack of every call, over 1,000 documents: opened each time and, where there is a call with a handle, opened once and checked once.
+fn depths() -> Vec<(String, Vec<usize>)> {
     let lists = data::bars(1000);
     let mut bytes = vec![0; lists.room()];
     let written = stack::depth(&mut || {
@@ -37,20 +50,32 @@ fn depths() -> Vec<(String, usize)> {
     let length = library::write(&lists, &mut bytes).first as usize;
     bytes.truncate(length);
     let mut buffers = library::Buffers::new(1000, lists.positions.len());
+    let handles = [handles::open_once(&bytes), handles::check(&bytes)];
     let mut all = Vec::new();
     for call in calls::all(lists.ids[lists.ids.len() / 2]) {
-        let depth = stack::depth(&mut || {
+        let mut depths = vec![stack::depth(&mut || {
             black_box(library::ask(&call, &bytes, &mut buffers));
-        });
-        all.push((call.name(), depth));
+        })];
+        for handle in handles.iter().filter(|_| handles::has(&call)) {
+            depths.push(stack::depth(&mut || {
+                black_box(handles::ask(&call, &bytes, *handle, &mut buffers));
+            }));
+        }
+        all.push((call.name(), depths));
     }
-    all.push(("write".into(), written));
+    let once = stack::depth(&mut || {
+        black_box(handles::open_once(&bytes));
+    });
+    let check = stack::depth(&mut || {
+        black_box(handles::check(&bytes));
+    });
     let (_, file) = midi::files(1 << 16).remove(2);
     let mut lists = midi::enough(file.len());
     let imported = stack::depth(&mut || {
         black_box(library::midi_bars(&file, &mut lists));
     });
-    all.push(("midi_bars".into(), imported));
+    let others = [("open_once", once), ("check", check), ("write", written), ("midi_bars", imported)];
+    all.extend(others.map(|(name, depth)| (name.to_string(), vec![depth])));
     all
 }
 
@@ -75,6 +100,9 @@ fn main() {
         if what == "again" {
             return again::again(call, documents, times);
         }
+        if what == "checked" {
+            return again::checked(call, documents, times);
+        }
         let size = compare::size(documents, times, Some(call));
         report::whole(std::slice::from_ref(&size));
         return report::apart(std::slice::from_ref(&size));
@@ -85,6 +113,10 @@ fn main() {
         [only] if only == "sheet" => {
             report::sheets(&sheet::all(&[1000, 10_000, 100_000], 15));
             return report::sheets(&sheet::scattered(100_000, &[50, 500, 5000], 3));
+        }
+        [only, how @ ..] if only == "often" => {
+            let sizes = often::all(!how.is_empty());
+            return report_often::section(&sizes, &growth::all(&sizes, !how.is_empty()));
         }
         [only] if only == "checksum" => return report::checksum(&checksum::all(&[4096, 1 << 24], 15)),
         [only] if only == "stack" => return report::stack(&depths()),
@@ -99,6 +131,8 @@ fn main() {
     } else {
         vec![compare::size(1000, 15, None), compare::size(100_000, 11, None), compare::size(1_000_000, 3, None)]
     };
+    let often = often::all(quick);
+    let grown = growth::all(&often, quick);
     let hostile = limits::hostile(if quick { 1 << 21 } else { 1 << 24 });
     let midi = if quick { midi::all(1 << 20, 5) } else { midi::all(1 << 24, 11) };
 
@@ -117,6 +151,8 @@ fn main() {
     report::aims(&sizes[1]);
     println!("\n## Growth with size\n\n{}", text::GROWTH);
     report::growth(&sizes);
+    println!("\n## Check once, ask often\n");
+    report_often::section(&often, &grown);
     println!("\n## The checksum\n\n{}", text::CHECKSUM);
     report::checksum(&checksums);
     println!("\n## A hostile list\n\n{}", text::HOSTILE);

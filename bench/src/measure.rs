@@ -56,3 +56,24 @@ pub fn median(values: impl IntoIterator<Item = f64>) -> f64 {
     let n = sorted.len();
     (sorted[(n - 1) / 2] + sorted[n / 2]) / 2.0
 }
+
+/// The times of some that ran in turn: of each, in each round.
+pub struct Timed(pub Vec<Vec<f64>>);
+
+impl Timed {
+    pub fn of(&self, i: usize) -> f64 {
+        median(self.0[i].iter().copied())
+    }
+
+    /// Within a round, where both ran.
+    pub fn ratio(&self, i: usize, to: usize) -> Option<f64> {
+        let pairs = self.0.get(i)?.iter().zip(self.0.get(to)?);
+        Some(median(pairs.map(|(time, to)| time / to)))
+    }
+
+    /// What the first takes more than the second, in a round.
+    pub fn more(&self, i: usize, than: usize) -> f64 {
+        let pairs = self.0[i].iter().zip(&self.0[than]);
+        median(pairs.map(|(time, than)| time - than)).max(0.0)
+    }
+}

@@ -22,11 +22,11 @@ fn ratio(ours: f64, theirs: f64) -> String {
     format!("{:.2}", ours / theirs)
 }
 
-fn line(cells: impl IntoIterator<Item = String>) {
+pub fn line(cells: impl IntoIterator<Item = String>) {
     println!("| {} |", cells.into_iter().collect::<Vec<_>>().join(" | "));
 }
 
-fn head(first: &str, rest: impl IntoIterator<Item = String>) {
+pub fn head(first: &str, rest: impl IntoIterator<Item = String>) {
     let rest: Vec<String> = rest.into_iter().collect();
     println!("| {first} | {} |", rest.join(" | "));
     println!("|---|{}", "--:|".repeat(rest.len()));
@@ -172,9 +172,10 @@ pub fn sheets(all: &[Sheet]) {
     }
 }
 
-pub fn stack(depths: &[(String, usize)]) {
-    head("Call", ["bytes of stack".to_string()]);
-    for (name, depth) in depths {
-        line([name.clone(), grouped(*depth)]);
+pub fn stack(depths: &[(String, Vec<usize>)]) {
+    head("Call", ["per call", "opened once", "checked once"].map(String::from));
+    for (name, depths) in depths {
+        let cells = (0..3).map(|i| depths.get(i).map_or("".into(), |depth| grouped(*depth)));
+        line([name.clone()].into_iter().chain(cells));
     }
 }

@@ -23,6 +23,61 @@ Nanoseconds a document, opened each time, on the machine that wrote this page: t
 level is linear.
 ";
 
+pub const OFTEN: &str = "\
+A program that asks one segment many questions need not open it each time. `open_once` and `check` answer a handle, a few numbers, which it
+keeps beside the bytes and passes to the calls: of a segment that was opened once, whose lists a question still checks; or of one whose
+lists were all checked, where a question is the walk alone. The Rust's like is a method on a segment that is open: it checks and decodes
+the question's lists each time, so it stands beside both.
+
+These bars can be said as a text too, for a search in texts (`bench/src/words.rs`): 16 steps, on each one of 50 sounds or, on a step in
+four, a rest; the second sound is hit half as often as the first, the third a third as often, and so on; ids rise by 1 to 3. One bar in 32
+has the eight most frequent sounds on consecutive steps. The phrases that are found are the beginnings of these eight; those not found
+have its first two sounds exchanged: all these sounds are there, but in no bar the second right before the first. The near questions ask
+for the first, third and fifth sound within 8 steps, near_match for the second and the fourth; the unknown name is behind the fourth.
+";
+
+pub const FTS5: &str = "\
+A bar is a text of 16 words, a rest being one too, in a table without content and with full detail, in memory, written in one
+transaction and merged by `optimize`. The statement is prepared once; a question binds its text and steps through all rows, whose ids are
+collected. A phrase means the same there. NEAR has no order and counts the words between the first and the last name, so within 8 steps is
+`NEAR(s01 s03 s05, 7)`; an ordered near cannot be asked.
+";
+
+pub const RATIOS: &str = "\
+The answers of all were compared first: the Rust's, the library's with no handle and with each of the two, and FTS5's where it is asked.
+Then all were asked in turn, round after round; a ratio is taken within a round, and the median of the rounds is shown. **The Rust opened
+once is 1.** (Of 1,000 bars that are asked over and over the processor learns the branches by heart, on every side.)
+";
+
+pub const READS: &str = "\
+At 100,000 bars, of the fourth sound, and of the middle one of the bars that have it. The Rust's `document_len` looks into a table on the
+heap, which its open made, and its `df` needs no list; what the library has of a segment is its bytes and the handle's few numbers.
+";
+
+pub const OPENING: &str = "\
+Against the Rust's open, with its crc32fast and with a table, and for the writer against the Rust's. `check` does more than an open: it
+also decodes every list, as the Rust does in the row below it. A column of nanoseconds a bar that stays level from size to size is linear.
+";
+
+pub const BOUNDS: &str = "\
+At 100,000 bars. What a call that opens takes more than one that was opened once is opening; what that takes more than a checked one is the
+check of the question's lists; what is left is the walk (of the other calls: reading the answer). The checksums in them are worked out
+from the bytes and the time of a byte, which is that of opening a segment of one list that is as long. The first five columns are shares of
+a call that opens. A checked call is bounded by its walk. Last, from which question on a `check` and checked calls take less than calls that
+open.
+";
+
+pub const OFTEN_GROWTH: &str = "\
+Nanoseconds a bar: a row that stays level from size to size is linear, one that falls grows less than that. 1,000 bars stand here twice: one
+segment asked over and over, whose branches the processor learns by heart, and in 100 different segments that take turns, where it cannot,
+no more than in a large one.
+";
+
+pub const AIMS: &str = "\
+At most so much of the other's time. Growth starts from the 100 segments, and is counted as linear up to 1.2 times their nanoseconds a bar;
+from one segment asked over and over it is the larger factor that the table above shows.
+";
+
 pub const CHECKSUM: &str = "\
 A segment of one list, opened: all but some 110 bytes are the list's, and opening takes their checksum and no more. The library's source
 works out eight steps for each byte, of which the kit's compiler makes a lookup (decision 74). The last column is of the steps as they
@@ -63,5 +118,5 @@ places in the metadata, or from the one before, whichever is further on (decisio
 
 pub const STACK: &str = "\
 The library allocates nothing. What a call touches of the stack, measured on a painted one, over 1,000 documents, and over a MIDI file of
-65,536 bytes with hits of all notes:
+65,536 bytes with hits of all notes; in the last two columns with a handle. Bytes:
 ";

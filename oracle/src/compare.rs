@@ -1,6 +1,7 @@
 //! One call by both, compared: the reply's numbers and every lent place.
 
 use crate::case::{Call, Case, Kept, Room};
+use crate::handle::{self, Handles};
 use crate::lent::Buffers;
 use crate::library;
 use crate::random::Random;
@@ -36,6 +37,8 @@ pub struct Runner {
     pub sample: Option<Sample>,
     /// The sheets of bars in the same segments.
     pub sheets: Sheets,
+    /// The handles of the same segments, and the same calls with them.
+    pub handles: Handles,
 }
 
 impl Runner {
@@ -49,18 +52,39 @@ impl Runner {
             astray: Vec::new(),
             sample,
             sheets: Sheets::new(seed),
+            handles: Handles::new(),
         }
     }
 
-    /// Runs the library with buffers of these lengths; says what differs.
+    /// Runs the library with buffers of these lengths, then with each handle of the segment; says what differs first.
     pub fn differs(&mut self, case: &Case, found: &Found, room: Room) -> Option<String> {
         let told = rust::in_room(case, found, room);
+        self.lent.lend(room);
+        let reply = library::ask(case, &mut self.lent);
+        let difference = self.difference(reply, told);
+        if difference.is_some() || case.call == Call::Write {
+            return difference;
+        }
+        let handles = match self.handles.of(case.segment) {
+            Ok(handles) => handles,
+            Err(said) => return Some(said),
+        };
+        for (name, handle) in handles.into_iter().filter(|_| handle::takes(case.call)) {
+            self.lent.lend(room);
+            let reply = handle::ask(case, handle, self.lent.places.each_mut().map(|buffer| buffer.raw()));
+            if let Some(said) = self.difference(reply, told) {
+                return Some(format!("{name}, {handle:?}:\n{said}"));
+            }
+        }
+        None
+    }
+
+    /// What differs in the reply and the lent places from what the oracle says.
+    fn difference(&self, reply: Reply, told: Result<&Answer, Refused>) -> Option<String> {
         let expected = match told {
             Ok(answer) => Reply::accepted(answer.first, answer.second),
             Err((_, refusal)) => Reply::from(refusal),
         };
-        self.lent.lend(room);
-        let reply = library::ask(case, &mut self.lent);
         let held = match told {
             Ok(answer) => self.lent.hold(answer.places.each_ref().map(|list| &list[..]), &answer.bytes),
             Err(_) => self.lent.hold([&[]; 3], &[]),
@@ -81,6 +105,7 @@ impl Runner {
         let difference = self.differs(case, found, room);
         let told = rust::in_room(case, found, room);
         self.tally.count(case.call, told);
+        self.handles.count(case, told);
         if let Some(sample) = &mut self.sample {
             sample.offer(case, room, told);
         }

@@ -27,6 +27,7 @@ fn at_the_limit(runner: &mut Runner) {
         let opened = opened(&answer.bytes);
         runner.ask_full(&Case::on(Call::Open, &answer.bytes), &opened);
         runner.ask_full(&Case::on(Call::DocumentLengths, &answer.bytes), &opened);
+        runner.ask_full(&Case::on(Call::DocumentLen, &answer.bytes).numbered(1), &opened);
         let paper = Paper::new(&opened);
         for id in [1, LIMIT as u32 - 1, LIMIT as u32] {
             drop(runner.sheets.ask_full(&paper, id));

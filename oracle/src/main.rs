@@ -7,6 +7,7 @@
 //!   make, spoil, parts, damage, questions, rounds      random inputs
 //!   bars, worked, corners, patterns, strings, large    document 01's cases, whole small spaces, limits
 //!   show, shrink, reshape, sample                      a case as text, made smaller, and as a record of the replay list
+//!   handle                   a segment checked once and asked often: every call above with handles, and any handle with any bytes
 //!   midi, sheet              bars from MIDI files and a bar on paper, which the Rust does not have, beside models from document 02's words
 
 mod bars;
@@ -15,6 +16,7 @@ mod compare;
 mod corners;
 mod damage;
 mod given;
+mod handle;
 mod large;
 mod lent;
 mod library;
@@ -41,6 +43,7 @@ mod words;
 mod worked;
 
 use compare::{found, opened, Runner};
+use handle::Any;
 use midi::Midi;
 use random::Random;
 use sample::Sample;
@@ -63,6 +66,9 @@ struct Options {
     only_sheets: bool,
     sheets: u64,
     sheet_case: Option<String>,
+    only_handles: bool,
+    handles: u64,
+    handle_case: Option<String>,
 }
 
 fn options() -> Result<Options, String> {
@@ -81,6 +87,9 @@ fn options() -> Result<Options, String> {
         only_sheets: false,
         sheets: 500_000,
         sheet_case: None,
+        only_handles: false,
+        handles: 1_000_000,
+        handle_case: None,
     };
     let mut words = std::env::args().skip(1);
     while let Some(word) = words.next() {
@@ -101,6 +110,9 @@ fn options() -> Result<Options, String> {
             "--only-sheets" => options.only_sheets = true,
             "--sheets" => options.sheets = number(value()?)?,
             "--sheet-case" => options.sheet_case = Some(value()?),
+            "--only-handles" => options.only_handles = true,
+            "--handles" => options.handles = number(value()?)?,
+            "--handle-case" => options.handle_case = Some(value()?),
             _ => return Err(format!("unknown option {word}")),
         }
     }
@@ -156,6 +168,17 @@ fn beside_the_rust(runner: &mut Runner, options: &Options) {
     });
 }
 
+/// The calls with a handle where lists are not as the writer makes them; those of the other parts have theirs there.
+fn with_handles(runner: &mut Runner, options: &Options) {
+    let mut random = Random::new(options.seed);
+    part(runner, &format!("longer, shared and broken lists, seed {}", options.seed), 0, |runner| {
+        let until = runner.tally.total() + options.handles / 4;
+        while runner.tally.total() < until {
+            handle::round(runner, &mut random);
+        }
+    });
+}
+
 fn conclude(runner: &mut Runner) {
     println!("differences: {}", runner.differences);
     for said in &runner.astray {
@@ -172,7 +195,7 @@ fn conclude(runner: &mut Runner) {
 
 fn compared(options: &Options) -> std::io::Result<ExitCode> {
     let mut runner = Runner::new(options.sample.is_some().then(Sample::new), options.seed);
-    let all = !options.only_midi && !options.only_sheets;
+    let all = !options.only_midi && !options.only_sheets && !options.only_handles;
     if all {
         beside_the_rust(&mut runner, options);
     }
@@ -186,12 +209,21 @@ fn compared(options: &Options) -> std::io::Result<ExitCode> {
     if all || options.only_sheets {
         sheet::all(&mut runner.sheets, options.seed, options.sheets, options.whole);
     }
+    let mut any = Any::new();
+    if all || options.only_handles {
+        with_handles(&mut runner, options);
+        handle::all(&mut any, options.seed, options.handles);
+    }
     if let (Some(file), Some(sample)) = (&options.midi_sample, midi.sample.take()) {
         sample.write(file)?;
     }
     if all {
         runner.tally.print();
         println!("answers held against demand 3's rules over the lists handed in: {}", runner.ruled);
+    }
+    if all || options.only_handles {
+        runner.handles.tally.print();
+        any.print();
     }
     if all || options.only_midi {
         midi.tally.print();
@@ -202,7 +234,9 @@ fn compared(options: &Options) -> std::io::Result<ExitCode> {
     conclude(&mut runner);
     midi::conclude(&mut midi);
     sheet::conclude(&mut runner.sheets);
-    Ok(if runner.differences + midi.differences + runner.sheets.differences == 0 { ExitCode::SUCCESS } else { ExitCode::FAILURE })
+    handle::conclude(&mut any);
+    let differences = runner.differences + midi.differences + runner.sheets.differences + any.differences;
+    Ok(if differences == 0 { ExitCode::SUCCESS } else { ExitCode::FAILURE })
 }
 
 fn main() -> ExitCode {
@@ -225,6 +259,9 @@ fn main() -> ExitCode {
     }
     if let Some(line) = &options.sheet_case {
         return sheet::one_case(line);
+    }
+    if let Some(line) = &options.handle_case {
+        return handle::one_case(line);
     }
     compared(&options).unwrap_or_else(|error| {
         eprintln!("a replay list could not be written: {error}");

@@ -24,7 +24,7 @@ impl<'a> Pool<'a> {
         }
     }
 
-    fn name(&self, random: &mut Random) -> Vec<u8> {
+    pub fn name(&self, random: &mut Random) -> Vec<u8> {
         if self.names.is_empty() || random.chance(12) {
             return random.pick(&["", "zz", "\u{e9}x", "A", "kic"]).into();
         }
@@ -38,7 +38,7 @@ impl<'a> Pool<'a> {
         name
     }
 
-    fn id(&self, random: &mut Random) -> u32 {
+    pub fn id(&self, random: &mut Random) -> u32 {
         if self.ids.is_empty() || random.chance(20) {
             return random.edge();
         }
@@ -46,7 +46,7 @@ impl<'a> Pool<'a> {
         id.wrapping_add(random.pick(&[0, 0, 0, 0, 1, u32::MAX]))
     }
 
-    fn window(random: &mut Random) -> u32 {
+    pub fn window(random: &mut Random) -> u32 {
         match random.below(8) {
             0 => random.edge(),
             1 => random.small(0, 40),
@@ -55,7 +55,7 @@ impl<'a> Pool<'a> {
     }
 
     /// One to eight names, sometimes none or very many.
-    fn several(&self, random: &mut Random) -> Vec<Vec<u8>> {
+    pub fn several(&self, random: &mut Random) -> Vec<Vec<u8>> {
         let count = match random.below(100) {
             0 => 0,
             1 => random.pick(&[9, 64, 127, 128, 129, 130]),
@@ -70,7 +70,7 @@ impl<'a> Pool<'a> {
     }
 
     /// Names that stand on consecutive positions of some document.
-    fn planted(&self, random: &mut Random) -> Vec<Vec<u8>> {
+    pub fn planted(&self, random: &mut Random) -> Vec<Vec<u8>> {
         let mut names = Vec::new();
         let Some(given) = self.given else { return names };
         if given.terms.is_empty() {
@@ -94,7 +94,7 @@ impl<'a> Pool<'a> {
 }
 
 /// Names as a text with ends, now and then ends that do not fit.
-fn text_of(random: &mut Random, names: &[Vec<u8>]) -> (Vec<u8>, Vec<u32>) {
+pub fn text_of(random: &mut Random, names: &[Vec<u8>]) -> (Vec<u8>, Vec<u32>) {
     let mut text = names.concat();
     let mut ends: Vec<u32> = names
         .iter()

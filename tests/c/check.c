@@ -91,6 +91,7 @@ int main(void) {
     test_midi_events();
     test_midi_limits();
     test_sheet();
+    test_handles();
     test_limits();
     test_empty();
     test_stack();

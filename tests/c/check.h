@@ -42,6 +42,7 @@ void test_midi(void);
 void test_midi_events(void);
 void test_midi_limits(void);
 void test_sheet(void);
+void test_handles(void);
 void test_limits(void);
 void test_empty(void);
 void test_stack(void);

@@ -1,4 +1,5 @@
 /* A term's list, decoded: what is accepted and each refusal, the same from every call that decodes. The segment opens in every row. */
+#include "asked.h"
 #include "build.h"
 #include "check.h"
 
@@ -148,6 +149,7 @@ void test_decoding(void) {
         const struct list *row = &lists[i];
         struct bytes s = with_list(row->df, row->list);
         test_undecoded(row->note, &s, row->df);
+        expect_handles(row->note, &s, row->kind ? refused(row->kind, row->which, row->index) : accepted(3, 1));
         if (row->kind) {
             test_refused(row->note, &s, refused(row->kind, row->which, row->index));
         } else {
@@ -162,5 +164,6 @@ void test_decoding(void) {
     memcpy(s.at + 56, &directory, 4);
     test_undecoded("a list's checksum", &s, 1);
     test_refused("a list's checksum", &s, refused(5, 6, 0));
+    expect_handles("a list's checksum", &s, refused(5, 6, 0));
     test_first_named();
 }

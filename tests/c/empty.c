@@ -25,6 +25,21 @@ void test_empty(void) {
     expect_reply(note, pstp_near_match(s.at, s.len, NULL, 0, NULL, 0, 4, NULL, 0), accepted(0, 0));
     expect_reply(note, pstp_near_match_terms_strs(s.at, s.len, NULL, 0, NULL, 0, 4, true, NULL, 0), accepted(0, 0));
     expect_reply(note, pstp_near_match_terms_strs(s.at, s.len, NULL, 0, none, 2, 4, false, NULL, 0), accepted(0, 0));
+    pstp_handle h = pstp_check(s.at, s.len), none_given = pstp_check(NULL, 0);
+    expect(note, none_given.kind == 1 && none_given.which == 1 && pstp_open_once(NULL, 0).kind == 1);
+    expect_reply(note, pstp_document_len_checked(NULL, 0, none_given, 3), refused(1, 1, 0));
+    expect_reply(note, pstp_df_checked(s.at, s.len, h, NULL, 0), accepted(0, 0));
+    expect_reply(note, pstp_docs_with_term_checked(s.at, s.len, h, kick, 4, NULL, 0), refused(13, 1, 2));
+    expect_reply(note, pstp_docs_with_term_checked(s.at, s.len, h, NULL, 0, NULL, 0), accepted(0, 0));
+    expect_reply(note, pstp_term_postings_checked(s.at, s.len, h, kick, 4, NULL, 0, NULL, 0, NULL, 0), refused(13, 1, 2));
+    expect_reply(note, pstp_term_postings_checked(s.at, s.len, h, kick, 4, x.place, 2, x.place + 2, 2, NULL, 0), refused(13, 3, 4));
+    expect_reply(note, pstp_positions_checked(s.at, s.len, h, kick, 4, 3, NULL, 0), refused(13, 1, 3));
+    expect_reply(note, pstp_phrase_match_strs_checked(s.at, s.len, h, kick, 4, end, 1, NULL, 0), refused(13, 1, 2));
+    expect_reply(note, pstp_phrase_match_strs_checked(s.at, s.len, h, NULL, 0, none, 2, NULL, 0), accepted(0, 0));
+    expect_reply(note, pstp_near_match_checked(s.at, s.len, h, kick, 4, kick, 4, 4, NULL, 0), refused(13, 1, 1));
+    expect_reply(note, pstp_near_match_checked(s.at, s.len, h, NULL, 0, NULL, 0, 4, NULL, 0), accepted(0, 0));
+    expect_reply(note, pstp_near_match_terms_strs_checked(s.at, s.len, h, NULL, 0, NULL, 0, 4, true, NULL, 0), accepted(0, 0));
+    expect_reply(note, pstp_near_match_terms_strs_checked(s.at, s.len, h, NULL, 0, none, 2, 4, false, NULL, 0), accepted(0, 0));
     expect_reply(note, pstp_write_positional_segment(NULL, 0, NULL, 0, NULL, 0, NULL, 0, NULL, 0, NULL, 0, NULL, 0, NULL, 0, NULL, 0),
                  refused(13, 1, 72));
     struct bytes out = {{0}, 72};

@@ -1,4 +1,5 @@
 /* Kind 12: 16,777,216 elements pass and one more does not; 128 names pass and 129 do not. */
+#include "asked.h"
 #include "build.h"
 #include "check.h"
 
@@ -8,6 +9,15 @@
 enum { LIMIT = 16777216, OVER = LIMIT + 1 };
 
 static struct bytes segment;
+
+/* A question beside itself with handles. */
+static void test_handled(const char *note, struct asked asked, const uint8_t *s, size_t len) {
+    asked.segment = s;
+    asked.segment_len = len;
+    asked.second = asked.second ? asked.second : no_bytes;
+    asked.ends = asked.ends ? asked.ends : nowhere;
+    expect_alike(note, &asked);
+}
 
 /* Names of 'a's, the longest allowed and one longer. 12 comes before opening: also with 71 bytes. */
 static void test_long_names(const uint8_t *name) {
@@ -27,6 +37,13 @@ static void test_long_names(const uint8_t *name) {
         expect_reply("a long second name: near_match", pstp_near_match(s, n, name, 1, name, len, 1, x.place, 0), want);
         expect_reply("a long text: near, idle", pstp_near_match_terms_strs(s, n, name, len, end, 2, 0, false, x.place, 0), want);
         expect_reply("a long name before opening", pstp_df(s, 71, name, len), over ? want : refused(1, 1, 0));
+        for (enum call call = ASK_DF; call <= ASK_NEAR_TERMS; call++) {
+            struct asked asked = {.call = call, .text = name, .text_len = len, .second = name, .second_len = 1, .ends = end, .ends_len = 1};
+            test_handled("a long name with a handle", asked, s, n);
+            test_handled("a long name with a refused handle", asked, s, 71);
+        }
+        struct asked second = {.call = ASK_NEAR, .text = name, .text_len = 1, .second = name, .second_len = len, .number = 1};
+        test_handled("a long second name with a handle", second, s, n);
     }
     const uint8_t *bad = (const uint8_t *)"\xFF";
     expect_reply("12 of the second name before 10 of the first", pstp_near_match(segment.at, 71, bad, 1, name, OVER, 1, x.place, 0),
@@ -54,6 +71,14 @@ static void test_many_names(void) {
         expect_reply("129 names: near", pstp_near_match_terms_strs(s, len, text, 129, rise, 129, 1, true, x.place, 0), refused(12, 0, 0));
         expect_reply("129 names: idle", pstp_near_match_terms_strs(s, len, text, 129, rise, 129, 0, false, x.place, 0), refused(12, 0, 0));
         expect_reply("12 before 11", pstp_phrase_match_strs(s, len, text, 129, fall, 129, x.place, 0), refused(12, 0, 0));
+        for (size_t names = 128; names <= 129; names++) {
+            struct asked asked = {.call = ASK_PHRASE, .text = text, .text_len = names, .ends = rise, .ends_len = names};
+            test_handled("many names with a handle", asked, s, len);
+            asked.ends = fall;
+            test_handled("many names with a handle, falling", asked, s, len);
+            asked.call = ASK_NEAR_TERMS;
+            test_handled("many names with a handle, idle", asked, s, len);
+        }
     }
     text[0] = 0xFF;
     expect_reply("12 before 10", pstp_phrase_match_strs(s, n, text, 129, rise, 129, x.place, 0), refused(12, 0, 0));
@@ -99,6 +124,15 @@ static void test_full_question(void) {
     expect_reply("128 terms: unordered, no room", pstp_near_match_terms_strs(out, n, text, sizeof text, ends, 128, 127, false, x.place, 1),
                  refused(13, 1, 2));
     expect_filled("128 terms: unordered, no room", &x, both, 0);
+    for (size_t room = 0; room <= 3; room++) {
+        struct asked asked = {.call = ASK_PHRASE, .text = text, .text_len = sizeof text, .ends = ends, .ends_len = 128, .room = {room}};
+        test_handled("128 terms with a handle: phrase", asked, out, n);
+        asked.call = ASK_NEAR_TERMS;
+        asked.number = 127;
+        test_handled("128 terms with a handle: unordered", asked, out, n);
+        asked.ordered = true;
+        test_handled("128 terms with a handle: ordered", asked, out, n);
+    }
 }
 
 /* Each of the writer's lists in turn at the limit and past it; the others are empty, so that at the limit they do not fit together. */
@@ -135,6 +169,37 @@ static void test_long_records(uint32_t *many, const uint8_t *text) {
     free(documents);
 }
 
+static void put_word(uint8_t *at, uint32_t value) {
+    for (int i = 0; i < 4; i++) {
+        at[i] = (uint8_t)(value >> (8 * i));
+    }
+}
+
+/* The segment of one name, made a byte longer than any call takes: no call finds the term, but its list is one of those that pstp_check
+ * decodes. */
+static void test_unaskable(const uint8_t *segment_of_longest, size_t len) {
+    uint8_t *s = malloc(len + 1);
+    memcpy(s, segment_of_longest, len);
+    s[len] = 0;
+    memmove(s + 104 + OVER, segment_of_longest + 104 + LIMIT, len - 104 - LIMIT);
+    s[104 + LIMIT] = 'a';
+    put_word(s + 32, OVER);
+    put_word(s + 76, OVER);
+    put_word(s + 56, crc32(s + 72, 32));
+    put_word(s + 60, crc32(s + 104, OVER));
+    len++;
+    size_t lists = len - 3;
+    expect_reply("a name that no call takes", pstp_df(s, len, s + 104, OVER), refused(12, 0, 0));
+    expect_handle("a name that no call takes", pstp_check(s, len), (pstp_handle){0, 0, 0, 2, 1, 1, 0, 104, lists - 2, lists});
+    s[len - 1] = 16;
+    put_word(s + 72 + 28, crc32(s + lists, 3));
+    put_word(s + 56, crc32(s + 72, 32));
+    put_word(s + 68, crc32(s + lists, 3));
+    expect_reply("its list is not decoded", pstp_open(s, len), accepted(1, 1));
+    expect_handle("its list is decoded", pstp_check(s, len), (pstp_handle){6, 13, 0, 0, 0, 0, 0, 0, 0, 0});
+    free(s);
+}
+
 /* A list of exactly the limit is written: one name of 16,777,216 bytes. A segment, and a buffer to lend, may be longer. */
 static void test_long_name_written(const uint8_t *name) {
     const uint32_t id = 3, length = 16, end = LIMIT, one = 1, step = 15;
@@ -150,6 +215,9 @@ static void test_long_name_written(const uint8_t *name) {
     expect_reply("the longest name's sheet", pstp_bar_sheet(out, need, 3, sheet, OVER), accepted(162, 0));
     expect("the longest name's sheet", memcmp(sheet + 81, "aaaaaaaaaaaa...............o", 28) == 0);
     free(sheet);
+    struct asked asked = {.call = ASK_POSITIONS, .text = name, .text_len = LIMIT, .number = 3, .room = {1}};
+    test_handled("the longest name with a handle", asked, out, need);
+    test_unaskable(out, need);
     free(out);
 }
 

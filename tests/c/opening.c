@@ -1,4 +1,5 @@
 /* pstp_open and the two calls on documents: what opening accepts, and each of its refusals in the order of docs/FORMAT.md. */
+#include "asked.h"
 #include "build.h"
 #include "check.h"
 
@@ -187,6 +188,7 @@ void test_opening(void) {
         segment.len = row->len ? row->len : segment.len;
         pstp_reply want = row->kind ? refused(row->kind, row->which, row->index) : accepted(2, 2);
         expect_reply(row->note, pstp_open(segment.at, segment.len), want);
+        expect_handles(row->note, &segment, first_refusal(&segment));
         if (row->kind) {
             test_no_call_opens(row->note, &segment, want);
         }
@@ -196,6 +198,7 @@ void test_opening(void) {
         struct bytes segment = assemble((struct parts){.documents = row->documents, .metadata = row->metadata});
         pstp_reply want = row->kind ? refused(row->kind, row->which, row->index) : accepted(row->documents, 0);
         expect_reply(row->note, pstp_open(segment.at, segment.len), want);
+        expect_handles(row->note, &segment, want);
         if (row->kind) {
             test_no_call_opens(row->note, &segment, want);
         } else {

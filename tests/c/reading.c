@@ -1,4 +1,5 @@
 /* The calls on terms: df, docs_with_term, term_postings, positions. */
+#include "asked.h"
 #include "build.h"
 #include "check.h"
 
@@ -65,6 +66,20 @@ static const struct {
     {"\xCE\xBA\xE1\xBD\xB9\xCF\x83\xCE\xBC\xCE\xB5", true},
 };
 
+/* The call beside itself with handles. */
+static void test_handled(enum call call, const struct bytes *s, const char *name, uint32_t id, size_t ids, size_t counts,
+                         size_t positions) {
+    expect_alike(name, &(struct asked){.call = call,
+                                       .segment = s->at,
+                                       .segment_len = s->len,
+                                       .text = (const uint8_t *)name,
+                                       .text_len = strlen(name),
+                                       .second = no_bytes,
+                                       .ends = nowhere,
+                                       .number = id,
+                                       .room = {ids, counts, positions}});
+}
+
 /* term_postings with so many places in each buffer: accepted, or 13 for the first short one, and the buffers as that says. */
 static void test_room(const struct term *row, size_t ids_room, size_t counts_room, size_t positions_room) {
     struct bytes s = row->segment();
@@ -86,6 +101,7 @@ static void test_room(const struct term *row, size_t ids_room, size_t counts_roo
     expect_filled(row->name, &x, ids.at, filled ? ids.len : 0);
     expect_filled(row->name, &y, counts.at, filled ? counts.len : 0);
     expect_filled(row->name, &z, positions.at, filled ? positions.len : 0);
+    test_handled(ASK_POSTINGS, &s, row->name, 0, ids_room, counts_room, positions_room);
 }
 
 static void test_term(const struct term *row) {
@@ -95,11 +111,13 @@ static void test_term(const struct term *row) {
     struct numbers ids = numbers(row->ids), positions = numbers(row->positions);
     size_t n = ids.len, most = positions.len;
     expect_reply(row->name, pstp_df(s.at, s.len, name, len), accepted(n, 0));
+    test_handled(ASK_DF, &s, row->name, 0, 0, 0, 0);
     for (size_t room = 0; room <= n + 1; room++) {
         struct lent x = lent();
         bool fits = n <= room;
         expect_reply(row->name, pstp_docs_with_term(s.at, s.len, name, len, x.place, room), fits ? accepted(n, 0) : refused(13, 1, n));
         expect_filled(row->name, &x, ids.at, fits ? n : 0);
+        test_handled(ASK_DOCS, &s, row->name, 0, room, 0, 0);
     }
     test_room(row, ROOM, ROOM, ROOM);
     test_room(row, n, n, most);
@@ -126,6 +144,7 @@ void test_reading(void) {
             expect_reply(row->name, pstp_positions(s.at, s.len, (const uint8_t *)row->name, strlen(row->name), row->id, x.place, room),
                          fits ? accepted(want.len, 0) : refused(13, 1, want.len));
             expect_filled(row->name, &x, want.at, fits ? want.len : 0);
+            test_handled(ASK_POSITIONS, &s, row->name, row->id, room, 0, 0);
         }
     }
     /* 10 comes before opening: the segment has 71 bytes. */
@@ -138,6 +157,12 @@ void test_reading(void) {
         struct lent x = lent(), y = lent(), z = lent();
         expect_reply("UTF-8: df", pstp_df(s.at, s.len, name, len), opened);
         expect_reply("UTF-8 before opening: df", pstp_df(s.at, 71, name, len), cut);
+        struct bytes short_of_one = s;
+        short_of_one.len = 71;
+        for (enum call call = ASK_DF; call <= ASK_NEAR; call++) {
+            test_handled(call, &s, texts[i].name, 3, 1, 1, 1);
+            test_handled(call, &short_of_one, texts[i].name, 3, 1, 1, 1);
+        }
         expect_reply("UTF-8: docs_with_term", pstp_docs_with_term(s.at, 71, name, len, x.place, 0), cut);
         expect_reply("UTF-8: term_postings", pstp_term_postings(s.at, 71, name, len, x.place, 0, y.place, 0, z.place, 0), cut);
         expect_reply("UTF-8: positions", pstp_positions(s.at, 71, name, len, 3, x.place, 0), cut);

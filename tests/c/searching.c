@@ -1,4 +1,5 @@
 /* The searches. Each question is asked with every room from none to one place more than the answer. */
+#include "asked.h"
 #include "build.h"
 #include "check.h"
 
@@ -100,6 +101,17 @@ static pstp_reply ask(const struct question *q, const struct bytes *s, const str
                                       room);
 }
 
+static struct asked with_names(enum call call, const struct bytes *s, const struct bytes *text, const struct numbers *ends) {
+    return (struct asked){.call = call,
+                          .segment = s->at,
+                          .segment_len = s->len,
+                          .text = text->at,
+                          .text_len = text->len,
+                          .second = no_bytes,
+                          .ends = ends->at,
+                          .ends_len = ends->len};
+}
+
 static void test_question(const struct question *q) {
     static const char *rules[] = {"phrase", "ordered", "unordered"};
     char note[96];
@@ -113,12 +125,22 @@ static void test_question(const struct question *q) {
         pstp_reply expected = fits ? accepted(want.len, 0) : refused(PSTP_NO_ROOM, 1, want.len);
         expect_reply(note, ask(q, &s, &n, x.place, room), expected);
         expect_filled(note, &x, want.at, fits ? want.len : 0);
+        struct asked asked = with_names(q->rule == PHRASE ? ASK_PHRASE : ASK_NEAR_TERMS, &s, &n.text, &n.ends);
+        asked.number = q->window;
+        asked.ordered = q->rule == ORDERED;
+        asked.room[0] = room;
+        expect_alike(note, &asked);
         if (q->rule == UNORDERED && n.ends.len == 2) { /* near_match is the same question */
             struct lent y = lent();
             size_t end = n.ends.at[0];
             expect_reply(note, pstp_near_match(s.at, s.len, n.text.at, end, n.text.at + end, n.text.len - end, q->window, y.place, room),
                          expected);
             expect_filled(note, &y, want.at, fits ? want.len : 0);
+            asked.call = ASK_NEAR;
+            asked.text_len = end;
+            asked.second = n.text.at + end;
+            asked.second_len = n.text.len - end;
+            expect_alike(note, &asked);
         }
     }
 }
@@ -158,11 +180,18 @@ static void test_text(const struct text *row) {
         size_t segment_len = cut ? 71 : s.len;
         pstp_reply want = row->kind ? refused(row->kind, 0, 0) : cut ? refused(PSTP_TRUNCATED, PSTP_SECTION_HEADER, 0) : accepted(0, 0);
         expect_reply(row->note, pstp_phrase_match_strs(s.at, segment_len, text.at, text.len, ends.at, ends.len, x.place, ROOM), want);
+        struct asked asked = with_names(ASK_PHRASE, &s, &text, &ends);
+        asked.segment_len = segment_len;
+        expect_alike(row->note, &asked);
+        asked.call = ASK_NEAR_TERMS;
         for (uint32_t window = 0; window <= 2; window++) { /* idle or not */
             for (int ordered = 0; ordered <= 1; ordered++) {
                 pstp_reply got = pstp_near_match_terms_strs(s.at, segment_len, text.at, text.len, ends.at, ends.len, window, ordered != 0,
                                                             x.place, ROOM);
                 expect_reply(row->note, got, want);
+                asked.number = window;
+                asked.ordered = ordered != 0;
+                expect_alike(row->note, &asked);
             }
         }
     }

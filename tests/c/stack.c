@@ -7,7 +7,7 @@
 #include <string.h>
 #include <ucontext.h>
 
-enum { SEARCH = 65536, TABLES = 16384, OTHER = 4096, PAINT = 0xA5 };
+enum { SEARCH = 36864, TABLES = 16384, OTHER = 4096, PAINT = 0xA5 };
 
 static uint8_t stack[4 * SEARCH];
 static ucontext_t host, guest;
@@ -19,6 +19,7 @@ static size_t segment_len;
 static uint32_t ends[128], ids[8], more_ids[8], places[8];
 static size_t room;
 static pstp_reply reply;
+static pstp_handle handle; /* of the segment, at each level in turn */
 
 static uint32_t posting_counts[128], posting_ids[384], position_counts[384], positions[768];
 
@@ -89,13 +90,48 @@ static void document_lengths(void) {
     reply = pstp_document_lengths(segment, segment_len, ids, room, more_ids, room);
 }
 
+static void open_once(void) {
+    handle = pstp_open_once(segment, segment_len);
+    reply = accepted(handle.documents, handle.terms);
+}
+static void check(void) {
+    handle = pstp_check(segment, segment_len);
+    reply = accepted(handle.documents, handle.terms);
+}
+static void refuse(void) {
+    handle = pstp_check(segment, 71);
+    reply = accepted(handle.kind, handle.which);
+}
+static void length_with_handle(void) {
+    reply = pstp_document_len_checked(segment, segment_len, handle, 2);
+}
+static void postings_with_handle(void) {
+    reply = pstp_term_postings_checked(segment, segment_len, handle, text, 2, ids, room, more_ids, room, places, room);
+}
+static void positions_with_handle(void) {
+    reply = pstp_positions_checked(segment, segment_len, handle, text, 2, 3, ids, room);
+}
+static void phrase_with_handle(void) {
+    reply = pstp_phrase_match_strs_checked(segment, segment_len, handle, text, 256, ends, 128, ids, room);
+}
+static void ordered_with_handle(void) {
+    reply = pstp_near_match_terms_strs_checked(segment, segment_len, handle, text, 4, ends, 2, 1, true, ids, room);
+}
+static void unordered_with_handle(void) {
+    reply = pstp_near_match_terms_strs_checked(segment, segment_len, handle, text, 256, ends, 128, 1, false, ids, room);
+}
+static void near_two_with_handle(void) {
+    reply = pstp_near_match_checked(segment, segment_len, handle, text, 2, text + 2, 2, 1, ids, room);
+}
+
 /* What each answers with room, and how deep it may go. */
-static const struct {
+struct row {
     const char *note;
     void (*call)(void);
     uint64_t first, second, third, fourth;
     size_t promised;
-} calls[] = {
+};
+static const struct row calls[] = {
     {"writer", make_segment, 72 + 32 * 128 + 256 + 3 * 2 + 128 * 3 * 4, 0, 0, 0, OTHER},
     {"writer over records", make_segment_of_records, 72 + 32 * 128 + 256 + 3 * 2 + 128 * 3 * 4, 0, 0, 0, OTHER},
     {"document_lengths", document_lengths, 3, 0, 0, 0, OTHER},
@@ -107,6 +143,22 @@ static const struct {
     {"near_match", near_two, 3, 0, 0, 0, SEARCH},
     {"midi_bars", midi_bars, 2, 128, 256, 256, TABLES},
     {"bar_sheet", bar_sheet, 81 * 129, 0, 0, 0, TABLES},
+};
+
+/* The calls that make a handle, and then, with each of the three, those that take one. */
+static const struct row makers[] = {
+    {"a refused handle", refuse, 1, 1, 0, 0, TABLES},
+    {"open_once", open_once, 3, 128, 0, 0, OTHER},
+    {"check", check, 3, 128, 0, 0, TABLES},
+};
+static const struct row handled[] = {
+    {"document_len with a handle", length_with_handle, 1, 2, 0, 0, OTHER},
+    {"term_postings with a handle", postings_with_handle, 3, 6, 0, 0, OTHER},
+    {"positions with a handle", positions_with_handle, 2, 0, 0, 0, OTHER},
+    {"phrase of 128 with a handle", phrase_with_handle, 0, 0, 0, 0, SEARCH},
+    {"ordered with a handle", ordered_with_handle, 3, 0, 0, 0, SEARCH},
+    {"unordered with a handle", unordered_with_handle, 3, 0, 0, 0, SEARCH},
+    {"near_match with a handle", near_two_with_handle, 3, 0, 0, 0, SEARCH},
 };
 
 static void run(void) {
@@ -129,28 +181,46 @@ static size_t depth_of(void (*call)(void)) {
     return sizeof stack - untouched;
 }
 
-void test_stack(void) {
-    size_t most = 0, of_midi = 0, of_sheet = 0;
-    const char *deepest = "";
-    make_file();
-    for (size_t i = 0; i < sizeof calls / sizeof calls[0]; i++) {
-        for (room = 0; room <= 8; room += 8) { /* counted first, or filled at once */
-            size_t depth = depth_of(calls[i].call);
-            if (room == 8) {
-                expect_reply(calls[i].note, reply, accepted_four(calls[i].first, calls[i].second, calls[i].third, calls[i].fourth));
-            }
-            expect(calls[i].note, depth < calls[i].promised);
-            if (depth > most) {
-                most = depth;
-                deepest = calls[i].note;
-            }
-            if (calls[i].call == midi_bars && depth > of_midi) {
-                of_midi = depth;
-            }
-            if (calls[i].call == bar_sheet && depth > of_sheet) {
-                of_sheet = depth;
-            }
+static size_t most;
+static const char *deepest = "";
+
+/* How deep a row's call goes. A search with a checked handle has tables alone. */
+static size_t measured(const struct row *row) {
+    size_t deeper = 0, promised = row->promised;
+    if (promised == SEARCH && handle.level == PSTP_LEVEL_CHECKED) {
+        promised = TABLES;
+    }
+    for (room = 0; room <= 8; room += 8) { /* counted first, or filled at once */
+        size_t depth = depth_of(row->call);
+        if (room == 8) {
+            expect_reply(row->note, reply, accepted_four(row->first, row->second, row->third, row->fourth));
+        }
+        expect(row->note, depth < promised);
+        if (depth > most) {
+            most = depth;
+            deepest = row->note;
+        }
+        if (depth > deeper) {
+            deeper = depth;
         }
     }
-    printf("stack: at most %zu bytes (%s); midi_bars %zu, bar_sheet %zu\n", most, deepest, of_midi, of_sheet);
+    return deeper;
+}
+
+void test_stack(void) {
+    size_t of_midi = 0, of_sheet = 0, of_check = 0;
+    make_file();
+    for (size_t i = 0; i < sizeof calls / sizeof calls[0]; i++) {
+        size_t depth = measured(&calls[i]);
+        of_midi = calls[i].call == midi_bars ? depth : of_midi;
+        of_sheet = calls[i].call == bar_sheet ? depth : of_sheet;
+    }
+    for (size_t i = 0; i < sizeof makers / sizeof makers[0]; i++) {
+        size_t depth = measured(&makers[i]);
+        of_check = makers[i].call == check ? depth : of_check;
+        for (size_t j = 0; j < sizeof handled / sizeof handled[0]; j++) {
+            measured(&handled[j]);
+        }
+    }
+    printf("stack: at most %zu bytes (%s); midi_bars %zu, bar_sheet %zu, check %zu\n", most, deepest, of_midi, of_sheet, of_check);
 }

@@ -24,12 +24,15 @@
 //!
 //! - Each call opens the segment again: the library keeps nothing between calls. A call therefore reads the whole segment once, and every
 //!   method returns a [`Result`]; after [`RawPositionalSegment::open`] has accepted the bytes, opening them again cannot fail.
+//!   [`RawPositionalSegment::check`] gives a [`CheckedSegment`], which is asked the same questions and checks nothing again, and
+//!   [`RawPositionalSegment::open_once`] an [`OpenedSegment`], which still decodes the lists of each question, as the original does.
 //! - A question has at most 128 terms, and each list at most 16,777,216 elements; otherwise [`Error::TooLarge`].
 //! - Files and the hash-map index are left out. [`midi_bars`], which reads bars from a MIDI file, and
 //!   [`RawPositionalSegment::bar_sheet`], which puts a bar on paper, are added.
 #![deny(missing_docs)]
 #![deny(unsafe_code)]
 
+mod checked;
 mod error;
 mod flat;
 mod midi;
@@ -40,6 +43,7 @@ mod sys;
 mod types;
 mod writer;
 
+pub use checked::{CheckedSegment, OpenedSegment};
 pub use error::Error;
 pub use midi::{midi_bars, MidiBars};
 pub use segment::RawPositionalSegment;

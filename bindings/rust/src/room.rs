@@ -1,6 +1,7 @@
 //! The buffers that are lent. They come zeroed from the system, and are touched only as far as they are filled.
 
 use crate::sys::Reply;
+use crate::types::RawPositionalPosting;
 use crate::Error;
 
 /// Places for positions at the first try.
@@ -19,6 +20,25 @@ pub(crate) fn with_positions(
         answer = ask(&mut positions).answer();
     }
     answer.map(|(first, _)| (first as usize, positions))
+}
+
+/// A term's postings, each with its own positions: `counts` has how many of them each id has.
+pub(crate) fn split_postings(
+    ids: &[u32],
+    counts: &[u32],
+    positions: &[u32],
+) -> Vec<RawPositionalPosting> {
+    let mut rest = positions;
+    let mut out = Vec::with_capacity(ids.len());
+    for (&doc_id, &count) in ids.iter().zip(counts) {
+        let (positions, next) = rest.split_at(count as usize);
+        rest = next;
+        out.push(RawPositionalPosting {
+            doc_id,
+            positions: positions.to_vec(),
+        });
+    }
+    out
 }
 
 /// The first n elements.

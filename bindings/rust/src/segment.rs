@@ -1,14 +1,17 @@
 //! A segment and the questions to it.
 
+use crate::checked::{CheckedSegment, OpenedSegment};
 use crate::flat::Names;
-use crate::room::{front, with_positions};
+use crate::room::{front, split_postings, with_positions};
+use crate::sys::handle::Handle;
 use crate::sys::{self, Reply};
 use crate::types::{DocId, RawPositionalPosting, TokenPos};
 use crate::Error;
 
 /// A byte-backed immutable positional segment.
 ///
-/// It holds the bytes and their two counts, nothing decoded: each method opens and checks the bytes again.
+/// It holds the bytes and their two counts, nothing decoded: each method opens and checks the bytes again. For many questions to one segment
+/// see [`check`](Self::check) and [`open_once`](Self::open_once).
 #[derive(Clone, Copy, Debug)]
 pub struct RawPositionalSegment<'a> {
     bytes: &'a [u8],
@@ -27,6 +30,19 @@ impl<'a> RawPositionalSegment<'a> {
             doc_count: documents as u32,
             term_count: terms as u32,
         })
+    }
+
+    /// Decode every list once, so that questions to the [`CheckedSegment`] check nothing again.
+    ///
+    /// The error is that of the first list, in the order of the terms, that does not decode; the other terms can still be asked for here
+    /// and in [`open_once`](Self::open_once).
+    pub fn check(&self) -> Result<CheckedSegment<'a>, Error> {
+        CheckedSegment::open(self.bytes)
+    }
+
+    /// Open the bytes for many questions: those to the [`OpenedSegment`] decode the lists that they need, but do not open the bytes again.
+    pub fn open_once(&self) -> Result<OpenedSegment<'a>, Error> {
+        OpenedSegment::open(self.bytes)
     }
 
     /// Return the number of documents.
@@ -72,17 +88,7 @@ impl<'a> RawPositionalSegment<'a> {
         let (postings, positions) = with_positions(self.bytes.len(), |positions| {
             sys::term_postings(self.bytes, term, &mut ids, &mut counts, positions)
         })?;
-        let mut rest = positions.as_slice();
-        let mut out = Vec::with_capacity(postings);
-        for (&doc_id, &count) in ids.iter().zip(&counts).take(postings) {
-            let (positions, next) = rest.split_at(count as usize);
-            rest = next;
-            out.push(RawPositionalPosting {
-                doc_id,
-                positions: positions.to_vec(),
-            });
-        }
-        Ok(out)
+        Ok(split_postings(&ids[..postings], &counts, &positions))
     }
 
     /// Return positions for one term in one document; none where either is unknown. The term's whole list is decoded.
@@ -149,14 +155,29 @@ impl<'a> RawPositionalSegment<'a> {
         Ok(sheet.expect("names are UTF-8, and are cut between characters"))
     }
 
+    pub(crate) fn of_handle(bytes: &'a [u8], handle: &Handle) -> Self {
+        Self {
+            bytes,
+            doc_count: handle.documents(),
+            term_count: handle.terms(),
+        }
+    }
+
+    pub(crate) fn bytes(&self) -> &'a [u8] {
+        self.bytes
+    }
+
     /// A place for each document. An open segment has two bytes or more for each, so this is at most twice the segment.
-    fn room_for_documents(&self) -> Vec<u32> {
+    pub(crate) fn room_for_documents(&self) -> Vec<u32> {
         vec![0; self.doc_count as usize]
     }
 
     /// An answer of documents: never more than the segment has, so one call suffices. Asking for the length first would read the whole
     /// segment and decode every list twice.
-    fn documents(&self, ask: impl FnOnce(&mut [u32]) -> Reply) -> Result<Vec<DocId>, Error> {
+    pub(crate) fn documents(
+        &self,
+        ask: impl FnOnce(&mut [u32]) -> Reply,
+    ) -> Result<Vec<DocId>, Error> {
         let mut ids = self.room_for_documents();
         let (count, _) = ask(&mut ids).answer()?;
         Ok(front(ids, count))

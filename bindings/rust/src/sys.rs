@@ -4,6 +4,7 @@
 //! length, empty ones too; a `&mut` slice overlaps nothing else that is passed; no other thread writes behind a `&` or touches what is
 //! behind a `&mut` while the call runs. The library keeps no pointer, and no contents are forbidden.
 
+pub(crate) mod handle;
 mod midi;
 mod sheet;
 
@@ -29,6 +30,19 @@ pub(crate) struct Reply {
 const _: () = assert!(usize::BITS == 64);
 
 impl Reply {
+    /// Three numbers of a handle as a reply: the refusal, or an acceptance.
+    pub(crate) fn of_refusal(kind: u32, which: u32, index: u64) -> Self {
+        Self {
+            kind,
+            which,
+            index,
+            first: 0,
+            second: 0,
+            third: 0,
+            fourth: 0,
+        }
+    }
+
     /// The answer's first two numbers, or the refusal. Only `midi_bars` has more.
     pub(crate) fn answer(self) -> Result<(u64, u64), Error> {
         self.numbers().map(|[first, second, ..]| (first, second))

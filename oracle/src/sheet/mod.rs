@@ -18,6 +18,7 @@ mod small;
 mod tally;
 mod worked;
 
+pub use broken::{broken, lengthened};
 pub use compare::Sheets;
 pub use model::Paper;
 pub use shrink::one_case;
