@@ -253,7 +253,7 @@ typedef struct pstp_handle {
  * Refusals, as kind, which and index of a handle with PSTP_LEVEL_REFUSED: opening. */
 pstp_handle pstp_open_once(const uint8_t *segment, size_t segment_len);
 
-/* Opens a segment and decodes the list of every term.
+/* Opens a segment and decodes the list of every term. Lists may share bytes; these are read for each of them.
  * A handle with PSTP_LEVEL_CHECKED.
  * Refusals, as kind, which and index of a handle with PSTP_LEVEL_REFUSED: opening; decoding the list of every term in the order of the
  * directory. The calls below accept such a handle and answer as without one: a name whose list decodes is found, whatever list is
