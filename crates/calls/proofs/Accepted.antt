@@ -18,14 +18,14 @@ use Rattle.segment.specs.Directory.{follows}
 use Rattle.segment.specs.Postings.{known}
 use Rattle.segment.proofs.Binds.{bind-gives}
 use Rattle.segment.proofs.Accepted.{check-gives}
+use Rattle.segment.proofs.After.{After, after-none, after-cons, after-head, after-tail}
 use Rattle.segment.proofs.Inversions.{last-gives}
 use Rattle.calls.specs.Checks.{reaches, check-documents, position-checks, check-positions, check-posting, check-postings, check-name}
 use Rattle.calls.specs.Checks.{check-terms}
 use Rattle.calls.specs.Acceptance.{Posting-fine, Term-fine}
 use Rattle.common.specs.Elements.{_∈_, Rising}
 use Rattle.common.proofs.Elements.{each}
-use Rattle.calls.proofs.Rising.{After, after-none, after-cons, after-head, after-tail, rises-reaches, After-name, name-none}
-use Rattle.calls.proofs.Rising.{name-cons, name-head, name-tail}
+use Rattle.calls.proofs.Rising.{rises-reaches, After-name, name-none, name-cons, name-head, name-tail}
 use Rattle.calls.proofs.Known.{known-gives, known-from}
 
 abbrev pub ids : List Document → List ℕ

@@ -13,13 +13,17 @@ use Rattle.calls.specs.Lookups.{positions-of}
 use Rattle.common.specs.Members.{kept}
 use Rattle.common.specs.Elements.{_∈_, Rising}
 use Rattle.rules.specs.declared.rule.Rule.{Rule}
+use Rattle.rules.specs.declared.rule.Rule.the-variants.{Phrase}
 use Rattle.rules.specs.Kinds.{meets, idle}
+use Rattle.rules.specs.Rules.{starts-count}
 use Rattle.rules.specs.Different.{different}
 use Rattle.calls.specs.Questions.{under, decoded-positions, decode-names, answer, answers}
+use Rattle.calls.specs.Order.{match-of, ranked}
+use Rattle.calls.specs.Ranked.{ranked-answer, ranked-answers}
 use Rattle.common.proofs.Membership.{kept-gives, kept-from}
-use Rattle.common.proofs.Kept.{kept-same, map-kept}
+use Rattle.common.proofs.Kept.{kept-same, map-kept, map-same}
 use Rattle.common.proofs.Rising.{kept-rises, kept-of-part}
-use Rattle.rules.proofs.Asked.{meets-same, needs-each}
+use Rattle.rules.proofs.Asked.{starts-same, meets-same, needs-each}
 use Rattle.calls.proofs.Posted.{docs, ids, positions-some}
 
 -- ---- the answer
@@ -76,3 +80,35 @@ module _ (s : Segment) (rule : Rule) (ns : List (List ℕ)) where
     pub answers-refused : {x : Refusal} → decode-names s (different ns) ≡ refuse x → answers s rule ns ≡ refuse x
     unfolding answers
     answers-refused e = rw (busy, e)
+
+-- ---- the ranked answers
+
+-- what stands under the names asked decides
+pub ranked-answer-same : (ns : List (List ℕ)) (documents : List Document) (ts us : List Term)
+    → ((n : List ℕ) → n ∈ ns → under ts n ≡ under us n) → ranked-answer ns documents ts ≡ ranked-answer ns documents us
+unfolding ranked-answer
+ranked-answer-same ns documents ts us h =
+    rw (answer-same Phrase ns documents ts us h)
+    (ap ranked
+    (map-same
+    (λ d. match-of d (starts-count (decoded-positions ts d) ns))
+    (λ d. match-of d (starts-count (decoded-positions us d) ns))
+    (answer Phrase ns documents us)
+    (λ d m.
+    ap (λ xs. match-of d (length xs))
+    (starts-same (decoded-positions ts d) (decoded-positions us d) ns (λ n k. ap (λ ps. positions-of ps d) (h n k))))))
+
+module _ (s : Segment) (ns : List (List ℕ)) where
+  pub ranked-idle : idle Phrase (length ns) ≡ true → ranked-answers s ns ≡ ok []
+  unfolding ranked-answers
+  ranked-idle e = rw e
+
+  module _ (busy : idle Phrase (length ns) ≡ false) where
+    pub ranked-found : {ts : List Term} → decode-names s (different ns) ≡ ok ts
+        → ranked-answers s ns ≡ ok (ranked-answer ns (s .documents) ts)
+    unfolding ranked-answers
+    ranked-found e = rw (busy, e)
+
+    pub ranked-refused : {x : Refusal} → decode-names s (different ns) ≡ refuse x → ranked-answers s ns ≡ refuse x
+    unfolding ranked-answers
+    ranked-refused e = rw (busy, e)

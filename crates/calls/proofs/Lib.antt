@@ -5,6 +5,7 @@ pub mod Accepted
 pub mod Passing
 pub mod Accepts
 pub mod Posted
+pub mod Own-rising
 pub mod Below
 pub mod Answering
 pub mod Decoding
@@ -18,3 +19,8 @@ pub mod Well-formed
 pub mod Well-named
 pub mod Characters
 pub mod Whole
+pub mod Ordered
+pub mod Occurs
+pub mod Ranks
+pub mod Sorted
+pub mod Beside

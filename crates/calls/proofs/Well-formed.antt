@@ -1,24 +1,26 @@
 -- A question passes its tests exactly where it is well-formed.
 -- Assumes nothing.
 use mathlib.Core.Path.{_≡_, refl}
-use mathlib.Core.Bool.{_&&_}
+use mathlib.Core.Bool.{true, _&&_}
 use mathlib.Core.List.{List, [], _∷_}
 use mathlib.Core.Logic.{inl, inr, _↔_}
-use Prim.Native.Nat.{ℕ}
+use Prim.Native.Nat.{ℕ, _≤_}
 use lib.Dec.{leb}
 use lib.ListN.{length}
 use borrow.Author.Tests.{leb-true, le-leb}
 use Rattle.utf8.specs.Utf8.{Is-utf8, utf8}
 use Rattle.common.proofs.Loops.{and-left, and-right}
 use Rattle.utf8.proofs.Text.{grammar-agrees}
+use Rattle.segment.specs.declared.checked.Checked.the-variants.{Passed}
 use Rattle.segment.specs.Refusals.{too-large, list-shape, invalid-utf8}
 use Rattle.segment.specs.Results.{ok}
+use Rattle.segment.specs.Steps.{checked}
 use Rattle.segment.specs.Texts.{ends-fit, names}
 use Rattle.common.specs.Elements.{_∈_}
 use Rattle.calls.specs.Questions.{check-names, check-question, two-checks}
 use Rattle.calls.specs.Claims as claims
 use Rattle.segment.proofs.Shapes.{shape-is}
-use Rattle.segment.proofs.Accepted.{check-gives}
+use Rattle.segment.proofs.Accepted.{check-gives, passed-ok}
 
 names-each : (ns : List (List ℕ)) → check-names ns ≡ ok tt → (n : List ℕ) → n ∈ ns → Is-utf8 n
 unfolding check-names
@@ -70,3 +72,10 @@ two-pass-exactly a b = (
     both : Is-utf8 a → Is-utf8 b → (n : List ℕ) → n ∈ (a ∷ b ∷ []) → Is-utf8 n
     both u v n (inl e) = rw e u
     both u v n (inr (inl e)) = rw e v
+
+-- what the code goes by behind the checks
+pub text-fits : (text ends : List ℕ) → Passed ≡ checked (check-question text ends)
+    → (ends-fit 0 ends (length text) ≡ true) × (length ends ≤ 128)
+text-fits text ends passed =
+    let w = passes-exactly text ends .0 (passed-ok (check-question text ends) passed .1) in
+    (shape-is text ends .1 (w .shape), w .few)

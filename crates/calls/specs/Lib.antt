@@ -3,6 +3,8 @@ pub mod Replies
 pub mod Lookups
 pub mod Reads
 pub mod Questions
+pub mod Order
+pub mod Ranked
 pub mod Kept
 pub mod Whole
 pub mod Given
@@ -14,3 +16,5 @@ pub mod Listing
 pub mod Sheet
 -- What is claimed of the definitions:
 pub mod Claims
+-- What only proofs need:
+pub mod Steps

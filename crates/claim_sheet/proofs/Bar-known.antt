@@ -1,25 +1,21 @@
 -- Of a segment that opens: ids rise and are below 2 ^ 32, so a length is found exactly where there is such a bar.
 -- Assumes nothing.
 use mathlib.Core.Path.{_≡_, refl, ap, ap₂, subst}
-use mathlib.Core.List.{List, [], _∷_, map}
+use mathlib.Core.List.{List}
 use mathlib.Core.Option.{Option, none, some}
-use Prim.Native.Nat.{ℕ, suc, _^_, _<_}
+use Prim.Native.Nat.{ℕ, _^_, _<_}
 use native.Mathlib.Omega.{arith}
-use Rattle.common.specs.Elements.{_∈_, Rising}
+use Rattle.common.specs.Elements.{_∈_}
 use Rattle.segment.specs.Results.{ok}
 use Rattle.segment.specs.Records.{Document, Segment}
 use Rattle.segment.specs.Metadata.{document, length-of}
 use Rattle.segment.specs.Postings.{known}
 use Rattle.segment.specs.Opening.{open-segment}
+use Rattle.segment.proofs.Read-rising.{opened-rises}
 use Rattle.calls.proofs.Known.{known-gives, known-from}
 use Rattle.read_cursors.proofs.Documents-held as held
 use Rattle.read_lists.proofs.Taken.{segment-taken}
 use Rattle.claim_sheet.specs.Claims.{Has-bar}
-
-ids-rise : (low : ℕ) (ds : List Document) → held.Rising low ds → Rising (map (λ d. d .id) ds)
-ids-rise low [] r = tt
-ids-rise low (d ∷ []) r = tt
-ids-rise low (d ∷ (e ∷ ds)) (a, b, c, r) = (omega (arith, r .0), ids-rise (suc (d .id)) (e ∷ ds) r)
 
 module _ (bytes : List ℕ) {s : Segment} (opens : open-segment bytes ≡ ok s) (id : ℕ) where
   abbrev there : Option ℕ
@@ -35,7 +31,7 @@ module _ (bytes : List ℕ) {s : Segment} (opens : open-segment bytes ≡ ok s) 
         subst (λ (d : Document). d ∈ s .documents) (ap₂ document (f .same) (f .length)) (f .known)
 
     pub bar-from : Has-bar s id len → there ≡ some len
-    bar-from b = known-from (s .documents) (ids-rise 0 (s .documents) rise) (document id len) b
+    bar-from b = known-from (s .documents) (opened-rises bytes opens) (document id len) b
 
     pub bar-small : Has-bar s id len → id < 2 ^ 32
     bar-small b = held.known-small 0 (s .documents) rise id (bar-from b)

@@ -7,5 +7,6 @@ pub mod Membership
 pub mod One-more
 pub mod Pairs
 pub mod Rising
+pub mod To-come
 pub mod Sets
 pub mod Stores

@@ -58,3 +58,8 @@ module _ {A B C : Type 0} (f : A → B → C) where
   paired-drop (suc n) [] ys = refl
   paired-drop (suc n) (x ∷ xs) [] = sym (paired-none (drop n xs))
   paired-drop (suc n) (x ∷ xs) (y ∷ ys) = paired-drop n xs ys
+
+-- a list beside its picture
+pub paired-picture : {A B C : Type 0} (f : A → B → C) (g : A → B) (xs : List A) → paired f xs (map g xs) ≡ map (λ x. f x (g x)) xs
+paired-picture f g [] = refl
+paired-picture f g (x ∷ xs) = rw (paired-picture f g xs)

@@ -77,7 +77,7 @@ below-few len previous (x ∷ xs) (r, rs) (b, bs) =
     let rest : length xs ≤ len - suc x = below-few len (some x) xs rs bs in
     omega (arith, rises-least previous x r)
 
-pub full-rises : (id : ℕ) (previous : Option ℕ) (ss : List Posting-at) → All-full previous ss
+full-rises : (id : ℕ) (previous : Option ℕ) (ss : List Posting-at) → All-full previous ss
     → Rises none (positions-of (map posting-of ss) id)
 unfolding positions-of
 full-rises id previous [] f = tt

@@ -15,7 +15,7 @@ use Rattle.segment.specs.Records.{Document, rises, gap}
 use Rattle.segment.specs.Metadata.{read-document, read-documents, metadata}
 use Rattle.segment.specs.Written.{metadata-bytes}
 use Rattle.common.specs.Elements.{_∈_, Rising}
-use Rattle.calls.proofs.Rising.{After, after-head, after-tail}
+use Rattle.segment.proofs.After.{After, after-head, after-tail}
 use Rattle.calls.proofs.Accepted.{ids}
 use Rattle.roundtrip.proofs.Front.{number-back}
 use Rattle.roundtrip.proofs.NumbersBack.{gap-back, gap-lt}

@@ -21,7 +21,7 @@ use Rattle.segment.specs.Written.{position-bytes, posting-bytes, postings-bytes
 use Rattle.calls.specs.Acceptance.{Posting-fine, Term-fine}
 use Rattle.common.specs.Elements.{_∈_, Rising}
 use Rattle.segment.specs.Contents.{decode-all}
-use Rattle.calls.proofs.Rising.{After, after-head, after-tail}
+use Rattle.segment.proofs.After.{After, after-head, after-tail}
 use Rattle.calls.proofs.Known.{known-from}
 use Rattle.calls.proofs.Accepted.{ids, docs}
 use Rattle.roundtrip.proofs.Front.{number-back}

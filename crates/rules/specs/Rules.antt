@@ -3,6 +3,7 @@ use Prim.Native.Nat.{ℕ, suc, _+_}
 use mathlib.Core.Bool.{Bool, true, false, _&&_}
 use mathlib.Core.List.{List, [], _∷_, map}
 use lib.Dec.{eqb, ltb, leb}
+use lib.ListN.{length}
 use Rattle.common.specs.Members.{every, some-of, kept}
 use Rattle.common.specs.Lists.{joined}
 use Rattle.rules.specs.Words.{mentions, within}
@@ -27,6 +28,10 @@ not-empty (x ∷ xs) = true
 
 abbrev pub phrase : (own : List ℕ → List ℕ) → List (List ℕ) → Bool
 phrase own names = not-empty (starts own names)
+
+-- how many they are
+abbrev pub starts-count : (own : List ℕ → List ℕ) → List (List ℕ) → ℕ
+starts-count own names = length (starts own names)
 
 -- each further name has a position above the one before, and not above the last allowed
 unfoldable pub chain-from : (previous last : ℕ) (own : List ℕ → List ℕ) → List (List ℕ) → Bool

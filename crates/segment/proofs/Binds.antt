@@ -19,6 +19,11 @@ pub bind-gives : {A B : Type 0} (r : Result A) (f : A → Result B) {b : B} → 
 bind-gives (ok a) f e = (a, refl, e)
 bind-gives (refuse x) f e = refuse-ok e
 
+-- steps taken together, or one by one
+pub bind-twice : {A B C : Type 0} (r : Result A) (f : A → Result B) (g : B → Result C) → ((r >>= f) >>= g) ≡ (r >>= λ a. f a >>= g)
+bind-twice (ok a) f g = refl
+bind-twice (refuse x) f g = refl
+
 -- the two tests of a value that rises
 pub both-gives : {B : Type 0} (t u : Bool) (x y : Refusal) (m : B) {n : B} → (check t x >>= (λ _. check u y >>= (λ _. ok m))) ≡ ok n
     → (t ≡ true) × (u ≡ true) × (m ≡ n)

@@ -2,6 +2,8 @@
 pub mod Binds
 pub mod Accepted
 pub mod Within
+pub mod After
+pub mod Read-rising
 pub mod Ends
 pub mod Fields
 pub mod Inversions
