@@ -5,4 +5,5 @@ pub mod Leap
 pub mod Places
 pub mod Chains
 pub mod Counts
+pub mod Counting
 pub mod Views

@@ -14,7 +14,7 @@ use Rattle.read_cursors.specs.Steps.{positions-from, Sought-position}
 use Rattle.read_cursors.proofs.Seeks.{Ahead}
 use Rattle.read_cursors.proofs.Entering.{positions-ahead}
 use Rattle.read_cursors.proofs.Rising.{Rises, from-rise}
-use Rattle.common.specs.Elements.{_∈_}
+use Rattle.common.specs.Elements.{_∈_, Rising}
 
 -- the positions that are not below a target, of a list that rises
 abbrev pub onward : ℕ → List ℕ → List ℕ
@@ -42,6 +42,11 @@ rises-low low [] p u m = absurd m
 rises-low low (x ∷ l) p (h, u) (inl e) = omega arith
 rises-low low (x ∷ l) p (h, u) (inr m) = omega (arith, rises-low (suc x) l p u m)
 
+rises-rising : (low : ℕ) (l : List ℕ) → Rises (λ (p : ℕ). p) low l → Rising l
+rises-rising low [] u = tt
+rises-rising low (x ∷ []) u = tt
+rises-rising low (x ∷ (y ∷ l)) (h, u) = (u .0, rises-rising (suc x) (y ∷ l) u)
+
 first-in : {k left : ℕ} {l : List ℕ} → Ahead (λ (p : ℕ). p) k left l → 0 < left → k ∈ l
 first-in Ahead.none h = absurd (omega arith)
 first-in (Ahead.one e) h = inl (sym e)
@@ -56,6 +61,9 @@ module _ (bytes : List ℕ) (c : Positions) where
 
   pub from-low : (p : ℕ) → p ∈ positions-from bytes c → c .pos .0 ≤ p
   from-low p m = rises-low (c .pos .0) (positions-from bytes c) p (from-rise bytes (c .remaining) (c .at) (c .pos .0)) m
+
+  pub from-rising : Rising (positions-from bytes c)
+  from-rising = rises-rising (c .pos .0) (positions-from bytes c) (from-rise bytes (c .remaining) (c .at) (c .pos .0))
 
   pub from-first : 0 < c .remaining → c .pos .0 ∈ positions-from bytes c
   from-first h = first-in ahead h

@@ -3,9 +3,10 @@ use Prim.Native.Nat.{ℕ, _+_, _^_, _≤_, _<_}
 use mathlib.Core.Path.{_≡_}
 use mathlib.Core.Bool.{Bool, true, false}
 use mathlib.Core.List.{List}
+use mathlib.Core.Logic.{_↔_}
 use lib.ListN.{length, getD}
 use Rattle.read_cursors.specs.declared.positions.Positions.{Positions}
-use Rattle.common.specs.Elements.{_∈_}
+use Rattle.common.specs.Elements.{_∈_, Rising}
 use Rattle.read_cursors.specs.Held.{seek-in}
 use Rattle.read_cursors.specs.Steps.{positions-from, Sought-position}
 use Rattle.rules.specs.Words.{within}
@@ -68,6 +69,10 @@ Fits n takes start = (j : ℕ) → j < n → takes j start
 pub record Found (n : ℕ) (takes : ℕ → ℕ → Type 0) (r : Bool) : Type 0 where
   pub yes : r ≡ true → (start : ℕ) × Fits n takes start
   pub no : r ≡ false → (start : ℕ) → Fits n takes start → ⊥
+
+-- the number of starts that every name takes: of a list that has just these, each once, it is the length (there is one where n is above 0)
+pub record Found-so-often (n : ℕ) (takes : ℕ → ℕ → Type 0) (r : ℕ) : Type 0 where
+  pub number : (xs : List ℕ) → Rising xs → ((start : ℕ) → (start ∈ xs) ↔ Fits n takes start) → r ≡ length xs
 
 -- phrase: start + j is a position of name j
 abbrev pub stands : (bytes : List ℕ) (cs : ℕ → Positions) → ℕ → ℕ → Type 0

@@ -8,7 +8,7 @@ ghost use Rattle.common.specs.Slices.{was, left};
 ghost use Rattle.ask_match.specs.Steps.{positions-in, Inside, Changed, Sought-in, Passed-in};
 
 // The cursor with index i.
-fn cursor(at: &[usize], remaining: &[u32], pos: &[u32], i: usize) -> Positions
+pub fn cursor(at: &[usize], remaining: &[u32], pos: &[u32], i: usize) -> Positions
     requires { ⌜ Inside i (now at) (now remaining) (now pos) ⌝ }
     ensures { λ r. ⌜ r ≡ positions-in (was at) (was remaining) (was pos) i ⌝ }
 {

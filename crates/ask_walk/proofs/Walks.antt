@@ -1,229 +1,185 @@
--- The walk over the documents that every list holds: what a turn keeps.
+-- The walk over the documents that every list holds: what a turn keeps of the documents found.
 -- Assumes nothing.
-use Prim.Native.Nat.{ℕ, zero, suc, _+_, _≤_, _<_}
-use mathlib.Core.Path.{_≡_, refl, sym, ap, subst, _∙_}
-use mathlib.Core.Bool.{Bool, true, false, cond}
-use mathlib.Core.List.{List, [], _∷_, map}
+use Prim.Native.Nat.{ℕ, _+_, _≤_, _<_}
+use mathlib.Core.Path.{_≡_, refl, sym, ap, _∙_}
+use mathlib.Core.Bool.{Bool, true, false}
+use mathlib.Core.List.{List, [], _∷_, map, map-id}
 use native.Mathlib.Omega.{arith}
-use lib.Dec.{ltb}
 use lib.ListN.{length, length-set, getD, set}
-use lib.Seq.{getD-set-same, getD-set-other}
-use borrow.Author.Count.{below-more}
-use borrow.Author.Tests.{ltb-true, eq-eqb, ne-eqb}
-use Rattle.read_cursors.specs.Held.{seek-in, Posting-at, posting-of}
-use Rattle.segment.specs.Records.{Posting}
+use lib.Seq.{sets}
 use Rattle.read_cursors.specs.declared.postings.Postings.{Postings}
 use Rattle.calls.specs.Lookups.{positions-of}
-use Rattle.read_cursors.specs.Steps.{postings-at, postings-from, Sought-posting}
-use Rattle.read_cursors.proofs.Rising.{Rises, from-rise-postings}
-use Rattle.ask_match.specs.Steps.{Changed}
-use Rattle.ask_match.proofs.Places.{each-changed}
 use Rattle.rules.specs.declared.rule.Rule.{Rule}
+use Rattle.rules.specs.declared.rule.Rule.the-variants.{Phrase}
 use Rattle.rules.specs.Kinds.{meets}
+use Rattle.rules.specs.Rules.{starts, not-empty, starts-count}
 use Rattle.ask_names.specs.Steps.{Numbered}
-use Rattle.ask_walk.specs.Steps.{cursors-in, In-tables, Sought-list, positions-under, Document-met, list-of}
-use Rattle.ask_walk.specs.Steps.{Documents-found}
+use Rattle.ask_walk.specs.Steps.{Document-met, Document-counted, list-of, Lacked, Leapt-to, Documents-found, Documents-counted}
+use Rattle.common.specs.Members.{kept}
 use Rattle.common.proofs.Membership.{at-place}
-use Rattle.common.specs.Elements.{Rising}
 use Rattle.rules.proofs.Asked.{needs-each}
 use Rattle.calls.proofs.Posted.{docs, positions-some}
+use Rattle.ask_walk.proofs.Leaps.{rising}
 use Rattle.ask_walk.proofs.Stored.{Stored, stored-start, stored-end, stored-skip, stored-hit}
 
--- ---- a document's positions from a cursor on
+-- names and own positions that fit the lists
+pub record Reading (bytes : List ℕ) (n : ℕ) (slot : List ℕ) (m : ℕ) (wanted : List ℕ) (heads : ℕ → Postings) : Type 0 where
+  pub own : ℕ → List ℕ → List ℕ
+  pub names : List (List ℕ)
+  pub numbered : Numbered n slot m wanted names
+  pub some : 0 < n
+  pub stand : (d i : ℕ) → i < n → own d (getD names i []) ≡ positions-of (list-of bytes heads (getD slot i 0)) d
 
--- passing lower documents loses none
-seek-positions : (target d : ℕ) (l : List Posting-at) → target ≤ d
-    → positions-of (map posting-of (seek-in (λ (s : Posting-at). s .doc) target l)) d ≡ positions-of (map posting-of l) d
-unfolding positions-of
-seek-positions target d [] h = refl
-seek-positions target d (x ∷ l) h = go (ltb (x .doc) target) refl (seek-positions target d l h)
-  where
-    go : (t : Bool) → ltb (x .doc) target ≡ t
-        → positions-of (map posting-of (seek-in (λ (s : Posting-at). s .doc) target l)) d ≡ positions-of (map posting-of l) d
-        → positions-of (map posting-of (cond t (seek-in (λ (s : Posting-at). s .doc) target l) (x ∷ l))) d
-        ≡ positions-of (map posting-of (x ∷ l)) d
-    go true e ih = rw (ne-eqb (x .doc) d (λ z. omega (arith, ltb-true (x .doc) target e))) ih
-    go false e ih = refl
+-- a document meets the rule
+abbrev passes : {bytes : List ℕ} {n : ℕ} {slot : List ℕ} {m : ℕ} {wanted : List ℕ} {heads : ℕ → Postings} (a : Rule)
+    (q : Reading bytes n slot m wanted heads) → ℕ → Bool
+passes a q d = meets a (q .own d) (q .names)
 
--- a document below the first has none
-low-positions : (low d : ℕ) (l : List Posting-at) → Rises (λ (s : Posting-at). s .doc) low l → d < low
-    → positions-of (map posting-of l) d ≡ []
-unfolding positions-of
-low-positions low d [] u h = refl
-low-positions low d (x ∷ l) (k, u) h =
-    rw (ne-eqb (x .doc) d (λ z. omega arith)) (low-positions (suc (x .doc)) d l u (omega arith))
-
-pub rising-docs : (low : ℕ) (l : List Posting-at) → Rises (λ (s : Posting-at). s .doc) low l → Rising (docs (map posting-of l))
-rising-docs low [] u = tt
-rising-docs low (x ∷ []) u = tt
-rising-docs low (x ∷ (y ∷ l)) (h, u) = (u .0, rising-docs (suc (x .doc)) (y ∷ l) u)
-
--- the postings from a cursor on
-abbrev ahead : List ℕ → Postings → List Posting
-ahead bytes c = map posting-of (postings-from bytes c)
-
-module _ (bytes : List ℕ) (c : Postings) where
-  ended : (d : ℕ) → c .remaining ≡ 0 → positions-of (ahead bytes c) d ≡ []
-  unfolding positions-of postings-at
-  ended d e = rw e
-
-  rises : Rises (λ (s : Posting-at). s .doc) (c .doc .0) (postings-from bytes c)
-  rises = from-rise-postings bytes (c .remaining) (c .at) (c .count) (c .doc .0)
-
-  pub rising : Rising (docs (map posting-of (postings-from bytes c)))
-  rising = rising-docs (c .doc .0) (postings-from bytes c) rises
-
-  below : (d : ℕ) → d < c .doc .0 → positions-of (ahead bytes c) d ≡ []
-  below d h = low-positions (c .doc .0) d (postings-from bytes c) rises h
-
-  at-front : (left d : ℕ) → 0 < left → c .doc .0 ≡ d
-      → positions-of (map posting-of (postings-at left (c .at) (c .count) (c .doc .0) bytes)) d ≡ positions-under bytes c
-  unfolding positions-of postings-at
-  at-front zero d h e = absurd (omega arith)
-  at-front (suc n) d h e = rw (eq-eqb (c .doc .0) d e)
-
--- ---- the cursors
-
--- each table set at the index
-pub list-set : (at count remaining doc : List ℕ) (k : ℕ) (c : Postings) → In-tables k at count remaining doc
-    → Changed k c (cursors-in at count remaining doc)
-    (cursors-in (set at k (c .at)) (set count k (c .count)) (set remaining k (c .remaining)) (set doc k (c .doc .0)))
-list-set at count remaining doc k c h = record {
-  here =
-      rw (
-        getD-set-same at k (c .at) 0 (h .offsets),
-        getD-set-same count k (c .count) 0 (h .counts),
-        getD-set-same remaining k (c .remaining) 0 (h .postings),
-        getD-set-same doc k (c .doc .0) 0 (h .documents),
-      );
-  other = λ j ne.
-      rw (
-        getD-set-other at k j (c .at) 0 ne,
-        getD-set-other count k j (c .count) 0 ne,
-        getD-set-other remaining k j (c .remaining) 0 ne,
-        getD-set-other doc k j (c .doc .0) 0 ne,
-      );
-}
-
--- a cursor read from the tables, advanced, and stored again
-pub list-sought : {bytes : List ℕ} {target k : ℕ} {at new : ℕ → Postings} {c r : Postings} → c ≡ at k → Sought-posting bytes target c r
-    → Changed k r at new → Sought-list bytes target k at new r
-list-sought {bytes} {target} {r = r} read so ch =
-    record { sought = subst (λ (x : Postings). Sought-posting bytes target x r) read so; stored = ch }
-
--- from doc on the cursors show what the lists have; those before k are at doc
-pub record Cursors (bytes : List ℕ) (heads at : ℕ → Postings) (doc k : ℕ) : Type 0 where
-  pub same : (j d : ℕ) → doc ≤ d → positions-of (list-of bytes at j) d ≡ positions-of (list-of bytes heads j) d
-  pub here : (j : ℕ) → j < k → positions-of (list-of bytes heads j) doc ≡ positions-under bytes (at j)
-
-pub cursors-start : (bytes : List ℕ) (heads : ℕ → Postings) → Cursors bytes heads heads 0 0
-cursors-start bytes heads = record { same = λ j d h. refl; here = λ j h. absurd (omega arith) }
-
-module _ {bytes : List ℕ} {heads at : ℕ → Postings} {doc k : ℕ} (w : Cursors bytes heads at doc k)
-    {new : ℕ → Postings} {r : Postings} (so : Sought-list bytes doc k at new r) where
-  shows : (d : ℕ) → doc ≤ d → positions-of (ahead bytes r) d ≡ positions-of (list-of bytes heads k) d
-  shows d h =
-      ap (λ (l : List Posting-at). positions-of (map posting-of l) d) (so .sought .holds)
-      ∙ seek-positions doc d (postings-from bytes (at k)) h ∙ w .same k d h
-
-  gone : r .remaining ≡ 0 → (d : ℕ) → doc ≤ d → positions-of (list-of bytes heads k) d ≡ []
-  gone e d h = sym (shows d h) ∙ ended bytes r d e
-
-  passed : (d : ℕ) → doc ≤ d → d < r .doc .0 → positions-of (list-of bytes heads k) d ≡ []
-  passed d h l = sym (shows d h) ∙ below bytes r d l
-
-  still : (j d : ℕ) → doc ≤ d → positions-of (list-of bytes new j) d ≡ positions-of (list-of bytes heads j) d
-  still j d h =
-      each-changed (λ i c. positions-of (ahead bytes c) d ≡ positions-of (list-of bytes heads i) d) (so .stored) (shows d h) j
-      (w .same j d h)
-
-  pub cursors-ok : 0 < r .remaining → r .doc .0 ≡ doc → Cursors bytes heads new doc (k + 1)
-  cursors-ok some e = record {
-    same = still;
-    here = below-more (λ j. positions-of (list-of bytes heads j) doc ≡ positions-under bytes (new j)) k
-        (λ j h. rw (so .stored .other j (λ z. omega arith)) (w .here j h))
-        (rw (so .stored .here) (sym (shows doc (omega arith)) ∙ at-front bytes r (r .remaining) doc some e));
-  }
-
-  pub cursors-on : {more : ℕ} → doc ≤ more → Cursors bytes heads new more 0
-  cursors-on up = record { same = λ j d h. still j d (omega arith); here = λ j h. absurd (omega arith) }
-
--- ---- the answers
-
--- for all names and own positions that fit the lists, the ids stored and those to come are the documents found
-pub record Answers (bytes : List ℕ) (a : Rule) (n : ℕ) (slot : List ℕ) (m : ℕ) (wanted : List ℕ) (heads : ℕ → Postings)
-    (before ids : List ℕ) (count doc : ℕ) : Type 0 where
-  pub long : length ids ≡ length before
-  pub few : count ≤ doc
-  pub so-far : (own : ℕ → List ℕ → List ℕ) (ns : List (List ℕ)) → Numbered n slot m wanted ns → 0 < n
-      → ((d i : ℕ) → i < n → own d (getD ns i []) ≡ positions-of (list-of bytes heads (getD slot i 0)) d)
-      → Stored (λ d. meets a (own d) ns) (map (λ p. p .doc) (list-of bytes heads 0)) before ids count doc
-
-module _ (bytes : List ℕ) (a : Rule) (n : ℕ) (slot : List ℕ) (m : ℕ) (wanted : List ℕ) (heads : ℕ → Postings)
-    (own : ℕ → List ℕ → List ℕ) (ns : List (List ℕ)) (u : Numbered n slot m wanted ns)
-    (stand : (d i : ℕ) → i < n → own d (getD ns i []) ≡ positions-of (list-of bytes heads (getD slot i 0)) d) where
+module _ {bytes : List ℕ} {n : ℕ} {slot : List ℕ} {m : ℕ} {wanted : List ℕ} {heads : ℕ → Postings} (a : Rule)
+    (q : Reading bytes n slot m wanted heads) where
   -- a document that meets the rule has positions in every list
-  has : (j d : ℕ) → j < m → meets a (own d) ns ≡ true → 0 < length (positions-of (list-of bytes heads j) d)
+  has : (j d : ℕ) → j < m → passes a q d ≡ true → 0 < length (positions-of (list-of bytes heads j) d)
   has j d h t =
+      let u = q .numbered in
       let (i, l, e) = u .each j h in
-      rw (← e, ← stand d i l) (needs-each (own d) ns (getD ns i []) (at-place [] ns i (omega (arith, u .taken))) a t)
+      rw (← e, ← q .stand d i l)
+      (needs-each (q .own d) (q .names) (getD (q .names) i []) (at-place [] (q .names) i (omega (arith, u .taken))) a t)
 
-  lacks : (j d : ℕ) → j < m → positions-of (list-of bytes heads j) d ≡ [] → meets a (own d) ns ≡ false
-  lacks j d h e = by-test (meets a (own d) ns) refl
+  lacks : (d : ℕ) → Lacked bytes m heads d → passes a q d ≡ false
+  lacks d l = by-test (passes a q d) refl
     where
-      by-test : (t : Bool) → meets a (own d) ns ≡ t → t ≡ false
-      by-test true t = absurd (omega (arith, has j d h t, ap length e))
+      by-test : (t : Bool) → passes a q d ≡ t → t ≡ false
+      by-test true t = absurd (omega (arith, has (l .list) d (l .among) t, ap length (l .none)))
       by-test false t = refl
 
-  -- what the code said of the document that all cursors are at
-  told : {at : ℕ → Postings} {doc k : ℕ} {t : Bool} → 0 < n → Cursors bytes heads at doc k → m ≤ k
-      → Document-met bytes a n slot m wanted at t
-      → meets a (own doc) ns ≡ t
-  told {at} {doc} some w all met =
-      sym (met (own doc) ns u some (λ i h. stand doc i h ∙ w .here (getD slot i 0) (omega (arith, u .below i h))))
+-- for all names and own positions that fit the lists, the numbers stored and those to come are those of the documents found
+pub record Answers (bytes : List ℕ) (a : Rule) (n : ℕ) (slot : List ℕ) (m : ℕ) (wanted : List ℕ) (heads : ℕ → Postings)
+    (g : Reading bytes n slot m wanted heads → ℕ → ℕ) (before now : List ℕ) (count doc : ℕ) : Type 0 where
+  pub long : length now ≡ length before
+  pub few : count ≤ doc
+  pub so-far : (q : Reading bytes n slot m wanted heads)
+      → Stored (λ d. meets a (q .own d) (q .names)) (g q) (docs (list-of bytes heads 0)) before now count doc
 
-pub answers-start : {bytes : List ℕ} {a : Rule} {n : ℕ} {slot : List ℕ} {m : ℕ} {wanted : List ℕ} {heads : ℕ → Postings} {ids : List ℕ}
-    → Answers bytes a n slot m wanted heads ids ids 0 0
-answers-start {ids = ids} = record { long = refl; few = omega arith; so-far = λ own ns u some stand. stored-start _ _ ids }
+module _ {bytes : List ℕ} {a : Rule} {n : ℕ} {slot : List ℕ} {m : ℕ} {wanted : List ℕ} {heads : ℕ → Postings}
+    {g : Reading bytes n slot m wanted heads → ℕ → ℕ} where
+  pub answers-start : {before : List ℕ} → Answers bytes a n slot m wanted heads g before before 0 0
+  answers-start {before} = record {
+    long = refl;
+    few = omega arith;
+    so-far = λ q. stored-start (passes a q) (g q) _ before;
+  }
 
-module _ {bytes : List ℕ} {a : Rule} {n : ℕ} {slot : List ℕ} {m : ℕ} {wanted : List ℕ} {heads : ℕ → Postings} {before ids : List ℕ}
-    {count doc : ℕ}
-    (s : Answers bytes a n slot m wanted heads before ids count doc) {at : ℕ → Postings} {k : ℕ} (w : Cursors bytes heads at doc k) where
-  -- all cursors are at the document
-  module _ {t : Bool} {after : List ℕ} {more : ℕ} (all : m ≤ k) (met : Document-met bytes a n slot m wanted at t) where
-    pub answers-hit : 0 < m → t ≡ true → after ≡ set ids count doc → more ≡ count + 1
-        → Answers bytes a n slot m wanted heads before after more (doc + 1)
-    answers-hit any hit put e = record {
-      long = ap length put ∙ simp length-set (s .long);
-      few = omega (arith, s .few);
-      so-far = λ own ns u some stand.
-          let is = told bytes a n slot m wanted heads own ns u stand some w all met ∙ hit in
-          rw e
-          (stored-hit _ _ (s .so-far own ns u some stand) (rising bytes (heads 0))
-          (positions-some (list-of bytes heads 0) doc (has bytes a n slot m wanted heads own ns u stand 0 doc any is)) is put);
+  module _ {before now : List ℕ} {count doc : ℕ} (s : Answers bytes a n slot m wanted heads g before now count doc) where
+    pub answers-end : ((e : ℕ) → doc ≤ e → Lacked bytes m heads e) → (q : Reading bytes n slot m wanted heads)
+        → let found = kept (λ d. meets a (q .own d) (q .names)) (docs (list-of bytes heads 0)) in
+        (count ≡ length found) × (now ≡ sets before 0 (map (g q) found))
+    answers-end none q = stored-end (passes a q) (g q) _ (s .so-far q) (λ e h. lacks a q e (none e h))
+
+    -- the next document that all lists hold
+    module _ {new : ℕ → Postings} {d : ℕ} (l : Leapt-to bytes m doc heads new d) where
+      come : (q : Reading bytes n slot m wanted heads) → Stored (passes a q) (g q) (docs (list-of bytes heads 0)) before now count d
+      come q = stored-skip (passes a q) (g q) _ (s .so-far q) (l .reached) (λ e h u. lacks a q e (l .skipped e h u))
+
+      -- what the code said of the document
+      pub met-told : {t : Bool} → Document-met bytes a n slot m wanted new t → (q : Reading bytes n slot m wanted heads)
+          → meets a (q .own d) (q .names) ≡ t
+      met-told met q =
+          sym (met (q .own d) (q .names) (q .numbered) (q .some)
+          (λ i h. q .stand d i h ∙ l .here (getD slot i 0) (q .numbered .below i h)))
+
+      pub answers-hit : {after : List ℕ} {more value : ℕ} → 0 < m
+          → ((q : Reading bytes n slot m wanted heads) → meets a (q .own d) (q .names) ≡ true)
+          → ((q : Reading bytes n slot m wanted heads) → g q d ≡ value) → after ≡ set now count value → more ≡ count + 1
+          → Answers bytes a n slot m wanted heads g before after more (d + 1)
+      answers-hit any hit is put e = record {
+        long = ap length put ∙ simp length-set (s .long);
+        few = omega (arith, s .few, l .reached);
+        so-far = λ q.
+            rw e
+            (stored-hit (passes a q) (g q) _ (come q) (rising bytes (heads 0))
+            (positions-some (list-of bytes heads 0) d (has a q 0 d any (hit q))) (hit q) (rw (is q) put));
+      }
+
+      pub answers-miss : {after : List ℕ} {more : ℕ} → ((q : Reading bytes n slot m wanted heads) → meets a (q .own d) (q .names) ≡ false)
+          → after ≡ now → more ≡ count → Answers bytes a n slot m wanted heads g before after more (d + 1)
+      answers-miss miss same e = record {
+        long = ap length same ∙ s .long;
+        few = omega (arith, s .few, l .reached);
+        so-far = λ q.
+            rw (same, e)
+            (stored-skip (passes a q) (g q) _ (come q) (omega arith)
+            (λ x h u. let z : x ≡ d = omega arith in rw z (miss q)));
+      }
+
+-- the ids alone
+pub ids-found : {bytes : List ℕ} {a : Rule} {n : ℕ} {slot : List ℕ} {m : ℕ} {wanted : List ℕ} {heads : ℕ → Postings}
+    {before now : List ℕ} {count doc : ℕ}
+    → Answers bytes a n slot m wanted heads (λ q d. d) before now count doc → ((e : ℕ) → doc ≤ e → Lacked bytes m heads e)
+    → Documents-found bytes a n slot m wanted heads before count now
+ids-found {bytes} {a} {n} {slot} {m} {wanted} {heads} s none own ns u some stand =
+    let q : Reading bytes n slot m wanted heads = record { own = own; names = ns; numbered = u; some = some; stand = stand } in
+    let (e, f) = answers-end s none q in
+    record { count = e; left = rw (map-id (kept (λ d. meets a (own d) ns) (docs (list-of bytes heads 0)))) at f }
+
+-- ---- the ids, and beside each the number of the phrase's starts
+
+some-left : (xs : List ℕ) → 0 < length xs → not-empty xs ≡ true
+some-left [] h = absurd (omega arith)
+some-left (x ∷ xs) h = refl
+
+none-left : (xs : List ℕ) → length xs ≡ 0 → not-empty xs ≡ false
+none-left [] e = refl
+none-left (x ∷ xs) e = absurd (omega (arith, e))
+
+-- how often the phrase of a reading fits in a document
+abbrev often : {bytes : List ℕ} {n : ℕ} {slot : List ℕ} {m : ℕ} {wanted : List ℕ} {heads : ℕ → Postings}
+    (q : Reading bytes n slot m wanted heads) → ℕ → ℕ
+often q d = starts-count (q .own d) (q .names)
+
+pub record Tallies (bytes : List ℕ) (n : ℕ) (slot : List ℕ) (m : ℕ) (heads : ℕ → Postings) (ids counts ids′ counts′ : List ℕ)
+    (count doc : ℕ) : Type 0 where
+  pub in-ids : (wanted : List ℕ) → Answers bytes Phrase n slot m wanted heads (λ q d. d) ids ids′ count doc
+  pub in-counts : (wanted : List ℕ)
+      → Answers bytes Phrase n slot m wanted heads (λ q d. starts-count (q .own d) (q .names)) counts counts′ count doc
+
+pub tallies-start : {bytes : List ℕ} {n : ℕ} {slot : List ℕ} {m : ℕ} {heads : ℕ → Postings} {ids counts : List ℕ}
+    → Tallies bytes n slot m heads ids counts ids counts 0 0
+tallies-start = record { in-ids = λ wanted. answers-start; in-counts = λ wanted. answers-start }
+
+module _ {bytes : List ℕ} {n : ℕ} {slot : List ℕ} {m : ℕ} {heads : ℕ → Postings} {ids counts ids′ counts′ : List ℕ} {count doc : ℕ}
+    (s : Tallies bytes n slot m heads ids counts ids′ counts′ count doc) where
+  pub tallies-end : 0 < n → ((e : ℕ) → doc ≤ e → Lacked bytes m heads e)
+      → Documents-counted bytes n slot m heads ids counts count ids′ counts′
+  tallies-end some none wanted own ns u stand =
+      let q : Reading bytes n slot m wanted heads = record { own = own; names = ns; numbered = u; some = some; stand = stand } in
+      record {
+        in-ids = ids-found (s .in-ids wanted) none own ns u some stand;
+        in-counts = answers-end (s .in-counts wanted) none q .1;
+      }
+
+  -- the next document that all lists hold, and what the code said of it
+  module _ {new : ℕ → Postings} {d r : ℕ} (l : Leapt-to bytes m doc heads new d) (told : Document-counted bytes n slot new r) where
+    is : {wanted : List ℕ} (q : Reading bytes n slot m wanted heads) → often q d ≡ r
+    is q =
+        sym (told (q .own d) (q .names) (q .numbered .taken)
+        (λ i h. q .stand d i h ∙ l .here (getD slot i 0) (q .numbered .below i h)))
+
+    pub tallies-hit : {ids″ counts″ : List ℕ} {more : ℕ} → 0 < m → 0 < r → ids″ ≡ set ids′ count d → counts″ ≡ set counts′ count r
+        → more ≡ count + 1 → Tallies bytes n slot m heads ids counts ids″ counts″ more (d + 1)
+    tallies-hit any fits put-id put-count e = record {
+      in-ids = λ wanted. answers-hit (s .in-ids wanted) l any hit (λ q. refl) put-id e;
+      in-counts = λ wanted. answers-hit (s .in-counts wanted) l any hit is put-count e;
     }
+      where
+        hit : {wanted : List ℕ} (q : Reading bytes n slot m wanted heads) → meets Phrase (q .own d) (q .names) ≡ true
+        hit q = some-left (starts (q .own d) (q .names)) (omega (arith, is q))
 
-    pub answers-miss : t ≡ false → after ≡ ids → more ≡ count → Answers bytes a n slot m wanted heads before after more (doc + 1)
-    answers-miss miss same e = record {
-      long = ap length same ∙ s .long;
-      few = omega (arith, s .few);
-      so-far = λ own ns u some stand.
-          rw (same, e)
-          (stored-skip _ _ (s .so-far own ns u some stand) (omega arith)
-          (λ d h l. let z : d ≡ doc = omega arith in rw z (told bytes a n slot m wanted heads own ns u stand some w all met ∙ miss)));
+    pub tallies-miss : {ids″ counts″ : List ℕ} {more : ℕ} → r ≡ 0 → ids″ ≡ ids′ → counts″ ≡ counts′ → more ≡ count
+        → Tallies bytes n slot m heads ids counts ids″ counts″ more (d + 1)
+    tallies-miss none same-ids same-counts e = record {
+      in-ids = λ wanted. answers-miss (s .in-ids wanted) l miss same-ids e;
+      in-counts = λ wanted. answers-miss (s .in-counts wanted) l miss same-counts e;
     }
-
-  -- a list has no document from here on, or none before a later one
-  module _ (h : k < m) {new : ℕ → Postings} {r : Postings} (so : Sought-list bytes doc k at new r) where
-    pub answers-gone : r .remaining ≡ 0 → Documents-found bytes a n slot m wanted heads before count ids
-    answers-gone e own ns u some stand =
-        stored-end _ _ (s .so-far own ns u some stand) (λ d l. lacks bytes a n slot m wanted heads own ns u stand k d h (gone w so e d l))
-
-    pub answers-over : doc ≤ r .doc .0 → Answers bytes a n slot m wanted heads before ids count (r .doc .0)
-    answers-over up = record {
-      long = s .long;
-      few = omega (arith, s .few);
-      so-far = λ own ns u some stand.
-          stored-skip _ _ (s .so-far own ns u some stand) up
-          (λ d l v. lacks bytes a n slot m wanted heads own ns u stand k d h (passed w so d l v));
-    }
+      where
+        miss : {wanted : List ℕ} (q : Reading bytes n slot m wanted heads) → meets Phrase (q .own d) (q .names) ≡ false
+        miss q = none-left (starts (q .own d) (q .names)) (is q ∙ none)

@@ -1,5 +1,5 @@
 -- What the walk over the documents computes.
-use Prim.Native.Nat.{ℕ, _≤_, _<_}
+use Prim.Native.Nat.{ℕ, _^_, _≤_, _<_}
 use mathlib.Core.Path.{_≡_}
 use mathlib.Core.Bool.{Bool, cond}
 use mathlib.Core.List.{List, [], map}
@@ -7,7 +7,9 @@ use mathlib.Core.Option.{none}
 use lib.ListN.{length, drop, getD}
 use lib.Seq.{sets}
 use Rattle.rules.specs.declared.rule.Rule.{Rule}
+use Rattle.rules.specs.declared.rule.Rule.the-variants.{Phrase}
 use Rattle.rules.specs.Kinds.{meets}
+use Rattle.rules.specs.Rules.{starts-count}
 use Rattle.read_cursors.specs.declared.positions.Positions.{Positions}
 use Rattle.read_cursors.specs.declared.postings.Postings.{Postings}
 use Rattle.read_cursors.specs.Held.{held-positions, posting-of}
@@ -73,11 +75,36 @@ Document-met bytes a n slot m wanted at r =
     → ((i : ℕ) → i < n → own (getD ns i []) ≡ positions-under bytes (at (getD slot i 0)))
     → r ≡ meets a own ns
 
+-- for all names and own positions that fit the indices and cursors: the answer is the number of the phrase's starts
+abbrev pub Document-counted : (bytes : List ℕ) (n : ℕ) (slot : List ℕ) (at : ℕ → Postings) (r : ℕ) → Type 0
+Document-counted bytes n slot at r =
+    (own : List ℕ → List ℕ) (ns : List (List ℕ)) → length ns ≡ n
+    → ((i : ℕ) → i < n → own (getD ns i []) ≡ positions-under bytes (at (getD slot i 0)))
+    → r ≡ starts-count own ns
+
 -- What the walk over the documents finds.
 
 -- the postings of term k
 abbrev pub list-of : (bytes : List ℕ) (heads : ℕ → Postings) (k : ℕ) → List Posting
 list-of bytes heads k = map posting-of (postings-from bytes (heads k))
+
+-- one of the m lists has no posting of the document
+pub record Lacked (bytes : List ℕ) (m : ℕ) (heads : ℕ → Postings) (d : ℕ) : Type 0 where
+  pub list : ℕ
+  pub among : list < m
+  pub none : positions-of (list-of bytes heads list) d ≡ []
+
+-- the cursors moved on to a document not below from; of each one passed some list has no position
+pub record Leapt-to (bytes : List ℕ) (m from : ℕ) (old new : ℕ → Postings) (d : ℕ) : Type 0 where
+  pub reached : from ≤ d
+  pub skipped : (e : ℕ) → from ≤ e → e < d → Lacked bytes m old e
+  pub here : (j : ℕ) → j < m → positions-of (list-of bytes old j) d ≡ positions-under bytes (new j)
+  pub same : (j e : ℕ) → d ≤ e → positions-of (list-of bytes new j) e ≡ positions-of (list-of bytes old j) e
+
+-- that document, or, by a number that no id is, that there is none
+pub record Leapt (bytes : List ℕ) (m from : ℕ) (old new : ℕ → Postings) (r : ℕ) : Type 0 where
+  pub document : r < 2 ^ 32 → Leapt-to bytes m from old new r
+  pub none : 2 ^ 32 ≤ r → (e : ℕ) → from ≤ e → Lacked bytes m old e
 
 -- a count, and ids from a buffer's front on, as far as it goes
 pub record Found-ids (found before : List ℕ) (r : ℕ) (after : List ℕ) : Type 0 where
@@ -91,3 +118,17 @@ Documents-found bytes a n slot m wanted heads before r after =
     (own : ℕ → List ℕ → List ℕ) (ns : List (List ℕ)) → Numbered n slot m wanted ns → 0 < n
     → ((d i : ℕ) → i < n → own d (getD ns i []) ≡ positions-of (list-of bytes heads (getD slot i 0)) d)
     → Found-ids (kept (λ d. meets a (own d) ns) (map (λ p. p .doc) (list-of bytes heads 0))) before r after
+
+-- for all names and own positions that fit the lists: the documents of the first list whose own positions meet the phrase, in its order,
+-- and beside each the number of the phrase's starts
+pub record Found-counted (found starts ids counts : List ℕ) (r : ℕ) (ids′ counts′ : List ℕ) : Type 0 where
+  pub in-ids : Found-ids found ids r ids′
+  pub in-counts : counts′ ≡ sets counts 0 starts
+
+abbrev pub Documents-counted : (bytes : List ℕ) (n : ℕ) (slot : List ℕ) (m : ℕ) (heads : ℕ → Postings) (ids counts : List ℕ) (r : ℕ)
+    (ids′ counts′ : List ℕ) → Type 0
+Documents-counted bytes n slot m heads ids counts r ids′ counts′ =
+    (wanted : List ℕ) (own : ℕ → List ℕ → List ℕ) (ns : List (List ℕ)) → Numbered n slot m wanted ns
+    → ((d i : ℕ) → i < n → own d (getD ns i []) ≡ positions-of (list-of bytes heads (getD slot i 0)) d)
+    → let found = kept (λ d. meets Phrase (own d) ns) (map (λ p. p .doc) (list-of bytes heads 0)) in
+    Found-counted found (map (λ d. starts-count (own d) ns) found) ids counts r ids′ counts′

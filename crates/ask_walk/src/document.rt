@@ -1,6 +1,7 @@
-// The rule in one document, whose postings the cursors are at.
+// The rule in one document, whose postings the cursors are at, and the number of a phrase's starts there.
 use ask_match::ordered::ordered_here;
 use ask_match::phrase::phrase_here;
+use ask_match::starts::starts_here;
 use ask_match::tables::put_cursor;
 use ask_match::unordered::unordered_here;
 use read_cursors::positions::Positions;
@@ -16,7 +17,7 @@ ghost use Rattle.read_cursors.specs.Held.{held-positions};
 ghost use Rattle.read_cursors.specs.Steps.{positions-from};
 ghost use Rattle.ask_match.specs.Steps.{positions-in};
 ghost use Rattle.ask_names.specs.Steps.{In-slots};
-ghost use Rattle.ask_walk.specs.Steps.{cursor-term, postings-in, Openable, Cursors-opened, Document-met};
+ghost use Rattle.ask_walk.specs.Steps.{cursor-term, postings-in, Openable, Cursors-opened, Document-met, Document-counted};
 
 // The term of cursor i: that of name i, or term i itself where each term has a cursor.
 fn term_of(slot: &[usize; 128], each: bool, i: usize) -> usize
@@ -145,4 +146,33 @@ pub fn document_meets(
             )
         }
     }
+}
+
+// At how many starts the phrase of n names fits in the document. The three tables at the end are room for the cursors; what they hold on
+// entry does not matter.
+pub fn document_starts(
+    bytes: &[u8],
+    n: usize,
+    slot: &[usize; 128],
+    at: &[usize; 128],
+    count: &[u32; 128],
+    last_at: &mut [usize; 128],
+    last_remaining: &mut [u32; 128],
+    last_pos: &mut [u32; 128],
+) -> u32
+    requires { ⌜ In-slots n (now slot) × (0 < n) ⌝ }
+    ensures { λ r. ⌜ Document-counted (was bytes) n (was slot) (postings-in (was at) (was count)) r ⌝ }
+{
+    open_cursors(
+        bytes,
+        n,
+        slot,
+        false,
+        at,
+        count,
+        last_at,
+        last_remaining,
+        last_pos,
+    );
+    starts_here(bytes, n, last_at, last_remaining, last_pos)
 }

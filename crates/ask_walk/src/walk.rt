@@ -1,10 +1,7 @@
-// The documents that every list holds, by the same leap as in one document: the least document that no list has ruled out yet is brought
-// to each list in turn; a list that is past it moves it on.
+// The documents that every list holds, one leap after the other, and of these the ones that meet the rule.
 use crate::document::document_meets;
-use crate::tables::seek_list;
-use common::widths::wide;
+use crate::leap::next_document;
 use rules::rule::Rule;
-use segment::ids::DocId;
 ghost use Prim.Native.Nat.{_≤_, _<_};
 ghost use mathlib.Core.Path.{_≡_};
 ghost use lib.ListN.{set};
@@ -12,12 +9,12 @@ ghost use Rattle.common.specs.Slices.{was, left};
 ghost use Rattle.ask_names.specs.Steps.{In-slots};
 ghost use Rattle.ask_walk.specs.Steps.{cursors-in, Documents-found};
 
-// Stores an id at an index of the buffer, if the buffer is that long: a walk over an empty buffer only counts.
-fn put(ids: &mut [u32], at: usize, id: DocId)
-    ensures { λ r. ⌜ left ids ≡ set (was ids) at (id .0) ⌝ }
+// Stores a number at an index of the buffer, if the buffer is that long: a walk over an empty buffer only counts.
+pub fn put(buffer: &mut [u32], at: usize, number: u32)
+    ensures { λ r. ⌜ left buffer ≡ set (was buffer) at number ⌝ }
 {
-    if at < ids.len() {
-        ids[at] = id.0;
+    if at < buffer.len() {
+        buffer[at] = number;
     }
 }
 
@@ -48,45 +45,32 @@ pub fn walk(
     let mut first_pos = [0u32; 128];
     let mut seen = [0u32; 128];
     let mut found: usize = 0;
-    let mut next: u64 = 0;
-    let mut k: usize = 0;
-    while k < m {
-        let here = seek_list(bytes, at, count, remaining, doc, k, next);
-        if here.remaining == 0 {
+    let mut from: u64 = 0;
+    loop {
+        let next = next_document(bytes, m, at, count, remaining, doc, from);
+        if 0xFFFF_FFFF < next {
             return found;
         }
-        let id = here.doc;
-        let reached = wide(id.0);
-        if reached == next {
-            k += 1;
-            if k == m {
-                if document_meets(
-                    bytes,
-                    rule,
-                    n,
-                    slot,
-                    m,
-                    wanted,
-                    at,
-                    count,
-                    &mut last_at,
-                    &mut last_remaining,
-                    &mut last_pos,
-                    &mut first_at,
-                    &mut first_remaining,
-                    &mut first_pos,
-                    &mut seen,
-                ) {
-                    put(ids, found, id);
-                    found += 1;
-                }
-                next += 1;
-                k = 0;
-            }
-        } else {
-            next = reached;
-            k = 0;
+        if document_meets(
+            bytes,
+            rule,
+            n,
+            slot,
+            m,
+            wanted,
+            at,
+            count,
+            &mut last_at,
+            &mut last_remaining,
+            &mut last_pos,
+            &mut first_at,
+            &mut first_remaining,
+            &mut first_pos,
+            &mut seen,
+        ) {
+            put(ids, found, next as u32);
+            found += 1;
         }
+        from = next + 1;
     }
-    found
 }

@@ -55,19 +55,19 @@ returns : tie.Need-returns
 returns c own ns u some stand =
     let o = c .before .before .before .before in
     rw (o .before .before .before .before .enum-told .given .1)
-    (phrase-told _ _ _ _ _ _ _ own ns u some stand (o .open-cursors .ensures) (c .phrase-here .ensures))
+    (phrase-told _ _ _ _ _ own ns stand _ _ u some (o .open-cursors .ensures) (c .phrase-here .ensures))
 
 returns-2 : tie.Need-returns-2
 returns-2 c own ns u some stand =
     let o = c .before .before .before .before in
     rw (o .before .before .before .before .before .rule .given .1)
-    (ordered-told _ _ _ _ _ _ _ own ns u some stand (o .open-cursors2 .ensures) _ (c .ordered-here .ensures))
+    (ordered-told _ _ _ _ _ own ns stand _ _ u some (o .open-cursors2 .ensures) _ (c .ordered-here .ensures))
 
 returns-3 : tie.Need-returns-3
 returns-3 c own ns u some stand =
     let o = c .before .before .before .before .before .before .before .before in
     rw (o .before .before .before .before .before .rule2 .given .1)
-    (unordered-told _ _ _ _ _ _ _ own ns u some stand (o .open-cursors3 .ensures) _ (c .unordered-here .ensures))
+    (unordered-told _ _ _ _ _ own ns stand _ _ u some (o .open-cursors3 .ensures) _ (c .unordered-here .ensures))
 
 pub document-meets-spec : {M : Type 1} → statement M
 document-meets-spec =

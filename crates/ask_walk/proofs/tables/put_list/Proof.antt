@@ -1,6 +1,6 @@
 use denote.Ref.{now}
 use borrow.Author.Needs.{needs}
-use Rattle.ask_walk.proofs.Walks.{list-set}
+use Rattle.ask_walk.proofs.Leaps.{list-set}
 use Rattle.ask_walk.proofs.tables.put_list.Statement.{statement}
 use Rattle.ask_walk.proofs.tables.put_list.Tie as tie
 

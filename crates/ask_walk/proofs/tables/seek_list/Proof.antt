@@ -1,5 +1,5 @@
 use borrow.Author.Needs.{needs}
-use Rattle.ask_walk.proofs.Walks.{list-sought}
+use Rattle.ask_walk.proofs.Leaps.{list-sought}
 use Rattle.ask_walk.proofs.tables.seek_list.Statement.{statement}
 use Rattle.ask_walk.proofs.tables.seek_list.Tie as tie
 

@@ -5,11 +5,11 @@ use borrow.Author.Needs.{needs}
 use Rattle.ask_walk.proofs.walk.put.Statement.{statement}
 use Rattle.ask_walk.proofs.walk.put.Tie as tie
 
-mul-ids : tie.Need-mul-ids
-mul-ids c = search needs
+mul-buffer : tie.Need-mul-buffer
+mul-buffer c = search needs
 
-slice-write-ids : tie.Need-slice-write-ids
-slice-write-ids c = search needs
+slice-write-buffer : tie.Need-slice-write-buffer
+slice-write-buffer c = search needs
 
 same-length : tie.Need-same-length
 same-length c = search needs
@@ -21,4 +21,4 @@ returns-2 : tie.Need-returns-2
 returns-2 c = sym (set-out _ _ _ (omega arith))
 
 pub put-spec : {M : Type 1} → statement M
-put-spec = tie.close (tie.spec mul-ids slice-write-ids same-length returns returns-2)
+put-spec = tie.close (tie.spec mul-buffer slice-write-buffer same-length returns returns-2)
