@@ -66,7 +66,7 @@ module _ {bytes : List ℕ} {at : Layout} {n : Named} {t : Tables} (w : Named-by
   abbrev slots : Slots
   slots = w .resolved .slots
 
-  abbrev names : List (List ℕ)
+  abbrev pub names : List (List ℕ)
   names = made-ups (w .resolved .resolved .founds)
 
   holds : Hold n t slots
@@ -127,10 +127,10 @@ module _ {bytes : List ℕ} {at : Layout} {n : Named} {t : Tables} (w : Named-by
         absurd (slot-skips (slots .different) 0 (slots .entry) x k (omega arith) (omega arith) (held .entries k g)))
         (lt-or-ge j (slots .different))
 
-    own : ℕ → List ℕ → List ℕ
+    pub own : ℕ → List ℕ → List ℕ
     own d nm = positions-of (held-list bytes (t .start) (t .df) (slot-for (slots .different) (slots .entry) (head-of nm))) d
 
-    fitting : Fitting (held-list bytes (t .start) (t .df)) (n .taken) (t .slot) (n .different) (t .wanted) own names
+    pub fitting : Fitting (held-list bytes (t .start) (t .df)) (n .taken) (t .slot) (n .different) (t .wanted) own names
     unfolding own
     fitting = record {
       numbered = hold-numbers holds (numbers (told bytes) names slots held present);

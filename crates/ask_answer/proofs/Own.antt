@@ -49,7 +49,7 @@ use Rattle.ask_names.proofs.Slots-named.{Holding, list-at}
 use Rattle.ask_names.proofs.Slots-used.{slot-list, slot-below, numbers, lists-decode}
 use Rattle.ask_names.proofs.Resolving.{told, names-held}
 use Rattle.ask_names.proofs.Tables-hold.{hold-taken, hold-slot, hold-numbers}
-use Rattle.ask_walk.proofs.Walks.{rising-docs}
+use Rattle.ask_walk.proofs.Leaps.{rising-docs}
 use Rattle.ask_answer.specs.Promise.{answer-in, Replies}
 use Rattle.ask_answer.specs.Steps.{held-list, Fitting, found-in, Lists-answered, Lists-passed, Askable}
 use Rattle.ask_answer.proofs.Known.{open-rise, decoded-known}
@@ -113,7 +113,7 @@ module _ {bytes : List ℕ} {at : Layout} {a : Rule} {n : Named} {t : Tables} (q
   unfolding postings-of
   lacks nm r = rw (r (q .segment) (q .is-open))
 
-  decoded : lists-decoded bytes at (n .different) list ≡ checked (verdict (decode-names (q .segment) (different (q .names))))
+  pub decoded : lists-decoded bytes at (n .different) list ≡ checked (verdict (decode-names (q .segment) (different (q .names))))
   unfolding decode-from
   decoded =
       rw (q .is-open .documents, holds .different)
@@ -146,10 +146,10 @@ module _ {bytes : List ℕ} {at : Layout} {a : Rule} {n : Named} {t : Tables} (q
   known-passed false seen known = seen refl
 
   module _ (passed : check.Passed ≡ lists-decoded bytes at (n .different) list) where
-    all : (ts : List Term) × (decode-names (q .segment) (different (q .names)) ≡ ok ts)
+    pub all : (ts : List Term) × (decode-names (q .segment) (different (q .names)) ≡ ok ts)
     all = verdict-ok (decode-names (q .segment) (different (q .names))) (passed-ok _ (passed ∙ decoded) .1)
 
-    abbrev found-all : List ℕ
+    abbrev pub found-all : List ℕ
     found-all = answer a (q .names) documents (all .0)
 
     found-is : answers (q .segment) a (q .names) ≡ ok found-all
@@ -165,13 +165,15 @@ module _ {bytes : List ℕ} {at : Layout} {a : Rule} {n : Named} {t : Tables} (q
         rw e at (answer-of-name a (q .names) documents (all .0) nm m (open-rise (q .is-open)) (rw e rises) (rw e known))
 
     -- a name without a term is in no document
+    pub found-none : n .absent ≡ true → found-all ≡ []
+    unfolding kept
+    found-none e =
+        let (nm, m, r) = held .absent .0 (sym (holds .absent) ∙ e) in
+        found-by nm m [] (ok-same (sym (under-name nm m) ∙ lacks nm r)) tt (λ d k. absurd k)
+
     pub names-absent : n .absent ≡ true → (buffer : List ℕ)
         → Replies (answer-in (q .segment) a (q .names) (length buffer)) buffer (counted.Count 0) buffer
-    unfolding kept
-    names-absent e buffer =
-        let (nm, m, r) = held .absent .0 (sym (holds .absent) ∙ e) in
-        let f = found-by nm m [] (ok-same (sym (under-name nm m) ∙ lacks nm r)) tt (λ d k. absurd k) in
-        rw (found-is, f, le-leb 0 (length buffer) (omega arith)) (refl, refl)
+    names-absent e buffer = rw (found-is, found-none e, le-leb 0 (length buffer) (omega arith)) (refl, refl)
 
     -- ---- the lists walked
 
@@ -189,7 +191,7 @@ module _ {bytes : List ℕ} {at : Layout} {a : Rule} {n : Named} {t : Tables} (q
         list-under : lists k ≡ under (all .0) nm
         list-under = decoded-walked bytes (list k) documents list-decoded .is
 
-      fitting : Fitting lists (n .taken) (t .slot) (n .different) (t .wanted) (λ d nm. decoded-positions (all .0) d nm) (q .names)
+      pub fitting : Fitting lists (n .taken) (t .slot) (n .different) (t .wanted) (λ d nm. decoded-positions (all .0) d nm) (q .names)
       fitting = record {
         numbered = hold-numbers holds (numbers (told is-opened) (q .names) slots held present);
         named = omega (arith, named, holds .taken);
@@ -203,7 +205,7 @@ module _ {bytes : List ℕ} {at : Layout} {a : Rule} {n : Named} {t : Tables} (q
             ∙ ap lists (sym (hold-slot holds i)));
       }
 
-      found-from : (b : ℕ) → b < n .different → found-all ≡ found-in lists b a (λ d nm. decoded-positions (all .0) d nm) (q .names)
+      pub found-from : (b : ℕ) → b < n .different → found-all ≡ found-in lists b a (λ d nm. decoded-positions (all .0) d nm) (q .names)
       found-from b h =
           let g = rw (holds .different) at h in
           let (nm, m, r) = held .owned b g in

@@ -2,7 +2,7 @@
 -- Assumes nothing.
 use mathlib.Core.Path.{_≡_, refl, sym, ap, _∙_}
 use mathlib.Core.Bool.{Bool, true, false}
-use mathlib.Core.List.{List, map}
+use mathlib.Core.List.{List, [], map}
 use mathlib.Core.Logic.{_⊎_, inl, inr}
 use mathlib.Core.Option.{none}
 use Prim.Native.Nat.{ℕ, _+_, _≤_, _<_}
@@ -28,7 +28,7 @@ use Rattle.read_cursors.proofs.Rising.{postings-few}
 use Rattle.read_cursors.specs.Held.{posting-of, held-postings}
 use Rattle.read_cursors.specs.declared.postings.Postings.{Postings}
 use Rattle.read_cursors.specs.Steps.{postings-from}
-use Rattle.ask_walk.specs.Steps.{cursors-in, Documents-found}
+use Rattle.ask_walk.specs.Steps.{cursors-in, list-of, Documents-found}
 use Rattle.ask_answer.specs.Promise.{answer-of, Replies}
 use Rattle.ask_answer.specs.Steps.{Heads, held-list, Fitting, found-in, Lists-walked, Lists-answered}
 
@@ -73,18 +73,25 @@ module _ (bytes start df : List ℕ) (k : ℕ) (at count remaining doc : List �
 
 -- ---- the walk
 
+-- names that fit the lists fit the cursors at their first postings
+pub heads-fit : (bytes : List ℕ) (n : ℕ) (slot : List ℕ) (m : ℕ) (start df at count remaining doc : List ℕ)
+    → Heads bytes m start df at count remaining doc → (wanted : List ℕ) (own : ℕ → List ℕ → List ℕ) (ns : List (List ℕ))
+    → Fitting (held-list bytes start df) n slot m wanted own ns
+    → (d i : ℕ) → i < n → own d (getD ns i []) ≡ positions-of (list-of bytes (cursors-in at count remaining doc) (getD slot i 0)) d
+heads-fit bytes n slot m start df at count remaining doc h wanted own ns f d i g =
+    f .positions d i g ∙ ap (λ l. positions-of (map posting-of l) d) (sym (h .each (getD slot i 0) (f .numbered .below i g)))
+
 pub lists-walked : (bytes : List ℕ) (a : Rule) (n : ℕ) (slot : List ℕ) (m : ℕ) (wanted start df at count remaining doc : List ℕ)
     {before : List ℕ} {r : ℕ} {after : List ℕ} → 0 < m → Heads bytes m start df at count remaining doc
     → Documents-found bytes a n slot m wanted (cursors-in at count remaining doc) before r after
     → Lists-walked (held-list bytes start df) a n slot m wanted before r after
 lists-walked bytes a n slot m wanted start df at count remaining doc first h w own ns f =
     rw (ap (map posting-of) (h .each 0 first)) at
-    (w own ns (f .numbered) (f .named)
-    (λ d i g. f .positions d i g ∙ ap (λ l. positions-of (map posting-of l) d) (sym (h .each (getD slot i 0) (f .numbered .below i g)))))
+    (w own ns (f .numbered) (f .named) (heads-fit bytes n slot m start df at count remaining doc h wanted own ns f))
 
 -- ---- no more than list b has postings
 
-found-few : (bytes start df : List ℕ) (b : ℕ) (a : Rule) (own : ℕ → List ℕ → List ℕ) (ns : List (List ℕ))
+pub found-few : (bytes start df : List ℕ) (b : ℕ) (a : Rule) (own : ℕ → List ℕ → List ℕ) (ns : List (List ℕ))
     → length (found-in (held-list bytes start df) b a own ns) ≤ getD df b 0
 found-few bytes start df b a own ns =
     let ss = held-postings (getD df b 0) none (drop (getD start b 0) bytes) in

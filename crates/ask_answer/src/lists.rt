@@ -11,7 +11,7 @@ ghost use Rattle.ask_names.specs.Steps.{In-slots};
 ghost use Rattle.ask_answer.specs.Steps.{Long, Heads, held-list, Lists-walked, Lists-answered};
 
 // A cursor at the first posting of each of m lists, in four tables.
-fn open_lists(
+pub fn open_lists(
     bytes: &[u8],
     m: usize,
     start: &[usize; 128],
@@ -37,7 +37,7 @@ fn open_lists(
 }
 
 // Returns how many documents are in all m lists and meet the rule; stores the first of their ids from the buffer's front, as many as fit.
-fn walk_lists(
+pub fn walk_lists(
     bytes: &[u8],
     rule: Rule,
     n: usize,

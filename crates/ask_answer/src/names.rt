@@ -16,7 +16,7 @@ ghost use Rattle.ask_answer.specs.Steps.{Lists-passed, Named-by, Names-a
 
 // Decodes the lists of the different terms, in the order named, and returns the first refusal; nothing is decoded where it is known that
 // all lists decode. First all lists are checked side by side: where that is not sure of them, they are decoded one by one.
-fn check_lists(
+pub fn check_lists(
     bytes: &[u8],
     at: Layout,
     sure: bool,

@@ -3,15 +3,15 @@
 use mathlib.Core.Path.{_≡_, refl, _∙_}
 use mathlib.Core.Bool.{true}
 use mathlib.Core.List.{List, [], _∷_}
-use Prim.Native.Nat.{ℕ, _≤_}
+use Prim.Native.Nat.{ℕ}
 use native.Mathlib.Omega.{arith}
 use lib.ListN.{length}
 use borrow.Author.Tests.{le-leb}
 use Rattle.segment.specs.declared.checked.Checked.the-variants as check
 use Rattle.segment.specs.declared.refusal.Refusal.{Refusal}
-use Rattle.segment.specs.Results.{Result, ok, refuse, _>>=_}
+use Rattle.segment.specs.Results.{Result, ok, refuse}
 use Rattle.segment.specs.Records.{Segment}
-use Rattle.segment.specs.Texts.{ends-fit, names}
+use Rattle.segment.specs.Texts.{names}
 use Rattle.segment.specs.Opening.{open-segment}
 use Rattle.segment.specs.Steps.{checked}
 use Rattle.segment.proofs.Accepted.{passed-ok, refused-is}
@@ -23,8 +23,6 @@ use Rattle.rules.specs.Kinds.{idle}
 use Rattle.calls.specs.Questions.{check-question, two-checks, search, search-text, search-two}
 use Rattle.ask_search.specs.Promise.{Text-answered, Two-answered}
 use Rattle.ask_answer.specs.Promise.{answer-in, Replies}
-use Rattle.segment.proofs.Shapes.{shape-is}
-use Rattle.calls.proofs.Well-formed.{passes-exactly}
 use Rattle.calls.proofs.Answering.{answers-idle}
 
 -- ---- behind the checks
@@ -64,11 +62,6 @@ module _ (text ends : List ℕ) where
         → search-text bytes rule text ends room ≡ search bytes rule (names 0 ends text) room
     unfolding search-text
     text-goes bytes rule room = rw (passed-ok (check-question text ends) passed .1)
-
-    pub text-fits : (ends-fit 0 ends (length text) ≡ true) × (length ends ≤ 128)
-    text-fits =
-        let w = passes-exactly text ends .0 (passed-ok (check-question text ends) passed .1) in
-        (shape-is text ends .1 (w .shape), w .few)
 
 -- ---- two names, searched
 

@@ -82,7 +82,7 @@ returns-3 c =
     let e = l .before .before .before .before .before in
     let a = start e .args in
     let led = l .lead-with-rarest .ensures in
-    let v = answered-led (now (a .bytes)) (a .rule) led (w .answer-lists .ensures) in
+    let v = answered-led (now (a .bytes)) led (w .answer-lists .ensures) in
     record {
       kept = any-kept (start e .pre) (e .if1 .left) v;
       plain = λ q known. names-found q (known-passed q (a .sure) (seen (e .before)) known) (e .if1 .left) (led .is-term) v;

@@ -10,7 +10,8 @@ use Rattle.segment.specs.Steps.{checked}
 use Rattle.segment.proofs.Shapes.{names-count}
 use Rattle.calls.specs.Questions.{check-question, search as question, search-text}
 use Rattle.calls.proofs.Kept.{past-none}
-use Rattle.ask_search.proofs.Called.{refused, idles, answered, text-reply, text-stops, text-goes, text-fits}
+use Rattle.calls.proofs.Well-formed.{text-fits}
+use Rattle.ask_search.proofs.Called.{refused, idles, answered, text-reply, text-stops, text-goes}
 use Rattle.ask_checked.proofs.questions.ask_text.Statement.{statement}
 use Rattle.ask_checked.proofs.questions.ask_text.Tie as tie
 

@@ -12,8 +12,9 @@ use Rattle.segment.specs.Steps.{checked}
 use Rattle.read_open.specs.Opened.{Opens}
 use Rattle.read_open.proofs.Fitting.{own-fits}
 use Rattle.calls.specs.Questions.{check-question, search as question, search-text}
+use Rattle.calls.proofs.Well-formed.{text-fits}
 use Rattle.segment.proofs.Shapes.{names-count}
-use Rattle.ask_search.proofs.Called.{refused, closed, idles, answered, text-reply, text-stops, text-goes, text-fits}
+use Rattle.ask_search.proofs.Called.{refused, closed, idles, answered, text-reply, text-stops, text-goes}
 use Rattle.ask_search.proofs.questions.search_text.Statement.{statement}
 use Rattle.ask_search.proofs.questions.search_text.Tie as tie
 
