@@ -40,7 +40,7 @@ pub roomed-full : (ids : List ℕ) (places : ℕ) → places < length ids → ro
 roomed-full ids places h = rw (lt-leb (length ids) places h)
 
 module _ (l : Lists) (typed : Typed l) (fine : Lists-fine l) where
-  decodes : Decodes (given l .documents) (given l .terms)
+  pub decodes : Decodes (given l .documents) (given l .terms)
   decodes t m =
       list-back (given l .documents) (fine .documents-rise) (numbers-fit l typed fine) t (fine .each t m) (few-positions l typed fine t m)
 

@@ -1,8 +1,9 @@
 -- From what the writer and the search answer to the claim about a call that writes and then asks.
 -- Assumes nothing.
 use mathlib.Core.Path.{_≡_, refl, sym, ap, _∙_, subst}
-use mathlib.Core.Bool.{Bool, true, false}
+use mathlib.Core.Bool.{Bool}
 use mathlib.Core.List.{List}
+use mathlib.Core.Logic.{_↔_}
 use Prim.Native.Nat.{ℕ, _≤_}
 use native.Mathlib.Omega.{arith}
 use lib.ListN.{length, take, drop, length-append}
@@ -26,7 +27,7 @@ use Rattle.ask_search.specs.Promise.{Text-answered, Two-answered}
 use Rattle.claim_joint.specs.declared.ask.Question.{Question}
 use Rattle.claim_joint.specs.declared.ask.Question.the-variants as question
 use Rattle.claim_joint.specs.declared.ask.Asked.the-variants as asked
-use Rattle.claim_joint.specs.Demand.{Listed, Demand-3, rule-of, names-of, Proper}
+use Rattle.claim_joint.specs.Demand.{No-refusal, Given-back, Listed, Answered-by, Demand-3, rule-of, names-of, Proper}
 use Rattle.claim_joint.specs.Promise.{put-to, Put}
 use Rattle.claim_joint.proofs.Accepting.{accepts}
 use Rattle.claim_joint.proofs.Demanded.{written-back, listed, listed-two}
@@ -56,26 +57,39 @@ module _ (l : Lists) (out : List ℕ) {w : Written} {out′ : List ℕ} (wrote :
   pub promised : {v : Written} → w ≡ v → Wrote l out v out′
   promised e = subst (λ (r : Written). Wrote l out r out′) e wrote
 
-  -- the call's slice is as long as before
-  pub refused-claim : (rule : Rule) (ns : List (List ℕ)) (Proper : Type 0) (found : List ℕ) {x : Refusal} → w ≡ written.Refused x
-      → Demand-3 l out rule ns Proper found (asked.NotWritten x) out′ found
-  refused-claim rule ns Proper found e =
-      let r = refused-by (write l (length out)) (sym (wrote .reply) ∙ e) in
-      record {
-        accepts = (
-          λ a. let is = a .2 in let z : _≡_ {A = ℕ} 0 1 = cc in absurd (omega arith),
-          λ fine. let b = accepts l (length out) .1 fine in let is = sym r ∙ b .1 in let z : _≡_ {A = ℕ} 0 1 = cc in absurd (omega arith),
-        );
-        refuses = λ x is. (wrote .left ∙ ap (λ r. filled (λ xs. xs) r out) r, refl);
-        search-refuses = λ n x is. let z : _≡_ {A = ℕ} 0 1 = cc in absurd (omega arith);
-        gives-back = λ n c is. let z : _≡_ {A = ℕ} 0 1 = cc in absurd (omega arith);
-        lists = λ n c is. let z : _≡_ {A = ℕ} 0 1 = cc in absurd (omega arith);
-      }
+  -- a refusal: there is one to name, and the slice is as before
+  module _ {x : Refusal} (e : w ≡ written.Refused x) where
+    refusal : write l (length out) ≡ refuse x
+    refusal = refused-by (write l (length out)) (sym (wrote .reply) ∙ e)
+
+    pub refused-accepts : Answered-by (asked.NotWritten x) ↔ No-refusal l (length out)
+    refused-accepts = (
+      λ a. let is = a .2 in let z : _≡_ {A = ℕ} 0 1 = cc in absurd (omega arith),
+      λ fine.
+          let b = accepts l (length out) .1 fine in
+          let is = sym refusal ∙ b .1 in
+          let z : _≡_ {A = ℕ} 0 1 = cc in
+          absurd (omega arith),
+    )
+
+    pub refused-left : out′ ≡ out
+    refused-left = wrote .left ∙ ap (λ r. filled (λ xs. xs) r out) refusal
+
+    pub refused-claim : (rule : Rule) (ns : List (List ℕ)) (Proper : Type 0) (found : List ℕ)
+        → Demand-3 l out rule ns Proper found (asked.NotWritten x) out′ found
+    refused-claim rule ns Proper found = record {
+      accepts = refused-accepts;
+      refuses = λ x is. (refused-left, refl);
+      search-refuses = λ n x is. let z : _≡_ {A = ℕ} 0 1 = cc in absurd (omega arith);
+      gives-back = λ n c is. let z : _≡_ {A = ℕ} 0 1 = cc in absurd (omega arith);
+      lists = λ n c is. let z : _≡_ {A = ℕ} 0 1 = cc in absurd (omega arith);
+    }
 
 -- a search that refused left its buffer
-left-alone : (r : Result (List ℕ)) (found : List ℕ) {x : Refusal} → count-of r ≡ counted.Refused x → filled (λ xs. xs) r found ≡ found
-left-alone (ok ids) found e = let z : _≡_ {A = ℕ} 0 1 = cc in absurd (omega arith)
-left-alone (refuse y) found e = refl
+pub left-alone : {A : Type 0} (f : List A → List ℕ) (r : Result (List A)) (found : List ℕ) {x : Refusal}
+    → count-of r ≡ counted.Refused x → filled f r found ≡ found
+left-alone f (ok ids) found e = let z : _≡_ {A = ℕ} 0 1 = cc in absurd (omega arith)
+left-alone f (refuse y) found e = refl
 
 -- ---- written and asked
 
@@ -89,16 +103,20 @@ module _ (l : Lists) (out : List ℕ) (typed : Typed l) {n : ℕ} {out′ : List
   pub bytes-fit : n ≤ length out′
   bytes-fit = omega (arith, w .long, ap length (w .left), length-append (w .bytes) (drop (length (w .bytes)) out))
 
+  pub answered-accepts : (c : Counted) → Answered-by (asked.Answer n c) ↔ No-refusal l (length out)
+  answered-accepts c = (λ a. accepts l (length out) .0 (w .bytes, w .answer), λ fine. (n, c, refl))
+
+  pub gives-back : {m : ℕ} → n ≡ m → Given-back l out m out′
+  gives-back same = rw (sym same, w .long, w .left) (written-back l out (w .bytes) typed (w .answer))
+
   answered-claim : (rule : Rule) (ns : List (List ℕ)) (Proper : Type 0) (found : List ℕ) (c : Counted) (found′ : List ℕ)
       → ((x : Refusal) → c ≡ counted.Refused x → found′ ≡ found) → (Proper → Listed l rule ns found c found′)
       → Demand-3 l out rule ns Proper found (asked.Answer n c) out′ found′
   answered-claim rule ns Proper found c found′ alone lists = record {
-    accepts = (λ a. accepts l (length out) .0 (w .bytes, w .answer), λ fine. (n, c, refl));
+    accepts = answered-accepts c;
     refuses = λ x is. let z : _≡_ {A = ℕ} 0 1 = cc in absurd (omega arith);
     search-refuses = λ m x is. let e : c ≡ counted.Refused x = cc in alone x e;
-    gives-back = λ m d is.
-        let same : n ≡ m = cc in
-        rw (sym same, w .long, w .left) (written-back l out (w .bytes) typed (w .answer));
+    gives-back = λ m d is. let same : n ≡ m = cc in gives-back same;
     lists = λ m d is proper. let same : c ≡ d = cc in rw (sym same) (lists proper);
   }
 
@@ -119,7 +137,7 @@ module _ (l : Lists) (out : List ℕ) (typed : Typed l) {n : ℕ} {out′ : List
       → Demand-3 l out (rule-of q) (names-of q name ends other) (Proper q name ends other) found (asked.Answer n c) out′ found′
   asked-claim q name ends other found {c} {found′} p =
       answered-claim (rule-of q) (names-of q name ends other) (Proper q name ends other) found c found′
-      (λ x e. p .left ∙ left-alone (put-to (take n out′) q name ends other (length found)) found (sym (p .reply) ∙ e))
+      (λ x e. p .left ∙ left-alone (λ xs. xs) (put-to (take n out′) q name ends other (length found)) found (sym (p .reply) ∙ e))
       (λ proper. rw (p .reply, p .left, asked-bytes) (listed-to q name ends other found proper))
 
 -- ---- the search's calls, as what they answer to a question

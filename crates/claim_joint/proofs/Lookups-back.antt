@@ -41,22 +41,25 @@ found-back documents (t ∷ ts) each n = step (same (t .name) n) (found-back doc
     step false later = later
 
 module _ (documents : List Document) (ts : List Term) (each : Decodes documents ts) where
-  postings-back : (n : List ℕ) → postings-of (written documents ts) n ≡ ok (under ts n)
+  pub postings-back : (n : List ℕ) → postings-of (written documents ts) n ≡ ok (under ts n)
   unfolding postings-of
   postings-back n = found-back documents ts each n
 
-  names-back : (ns : List (List ℕ)) → decode-names (written documents ts) ns ≡ ok (map (λ n. term n (under ts n)) ns)
+  pub names-back : (ns : List (List ℕ)) → decode-names (written documents ts) ns ≡ ok (map (λ n. term n (under ts n)) ns)
   unfolding decode-names
   names-back [] = refl
   names-back (n ∷ ns) = rw (postings-back n, names-back ns)
+
+  -- what was decoded under a name asked is what was handed in
+  pub asked-back : (ns : List (List ℕ)) (n : List ℕ) → n ∈ ns → under (map (λ n. term n (under ts n)) (different ns)) n ≡ under ts n
+  asked-back ns n m =
+      ok-same
+      (sym (asked-under (written documents ts) ns (map (λ n. term n (under ts n)) (different ns)) (names-back (different ns)) n m)
+      ∙ postings-back n)
 
   -- the answer by the names decoded is the answer by all that was handed in
   pub answers-back : (rule : Rule) (ns : List (List ℕ)) → idle rule (length ns) ≡ false
       → answers (written documents ts) rule ns ≡ ok (answer rule ns documents ts)
   answers-back rule ns busy =
-      let us = map (λ n. term n (under ts n)) (different ns) in
-      let decoded = names-back (different ns) in
-      answers-found (written documents ts) rule ns busy decoded
-      ∙ ap ok
-      (answer-same rule ns documents us ts
-      (λ n m. ok-same (sym (asked-under (written documents ts) ns us decoded n m) ∙ postings-back n)))
+      answers-found (written documents ts) rule ns busy (names-back (different ns))
+      ∙ ap ok (answer-same rule ns documents (map (λ n. term n (under ts n)) (different ns)) ts (asked-back ns))

@@ -88,7 +88,7 @@ returns-2 c =
     let a = start w .args in
     record {
       demand =
-          refused-claim (handed-in w) (now (a .out)) (w .write-positional-segment .ensures) _ _ _ (now (a .found)) (c .before .x .given .1);
+          refused-claim (handed-in w) (now (a .out)) (w .write-positional-segment .ensures) (c .before .x .given .1) _ _ _ (now (a .found));
       called = (promised (handed-in w) (now (a .out)) (w .write-positional-segment .ensures) (c .before .x .given .1), refl);
     }
 

@@ -1,8 +1,6 @@
 -- What the writer and the search ensure, put together by proofs/Claimed.antt.
 -- Assumes nothing.
-use mathlib.Core.Path.{_≡_, refl, sym}
-use mathlib.Core.List.{List}
-use Prim.Native.Nat.{ℕ}
+use mathlib.Core.Path.{refl, sym}
 use native.Mathlib.Omega.{arith}
 use lib.Seq.{length-take-le}
 use denote.Ref.{now}
@@ -90,7 +88,7 @@ returns-2 c =
     let a = start w .args in
     record {
       demand =
-          refused-claim (handed-in w) (now (a .out)) (w .write-positional-segment .ensures) _ _ _ (now (a .found)) (c .before .x .given .1);
+          refused-claim (handed-in w) (now (a .out)) (w .write-positional-segment .ensures) (c .before .x .given .1) _ _ _ (now (a .found));
       called = (promised (handed-in w) (now (a .out)) (w .write-positional-segment .ensures) (c .before .x .given .1), refl);
     }
 
