@@ -2,9 +2,9 @@
  *
  * In a drum machine a document is a bar, a term a sound, a position a step. The calls are those of src/positional/raw.rs of
  * arclabs561/postings (see NOTICE), ported to Rattle and proved, and beyond them pstp_midi_bars, which reads bars from a MIDI file,
- * pstp_bar_sheet, which shows a bar in lines of text, and the calls with a handle (pstp_check), for a segment that is checked once and
- * asked often. docs/FORMAT.md describes the format, the order of the checks and the rules of the search; docs/GLOSSARY.md explains the
- * words. Link with libpstp.a (`rt staticlib pstp`, x86-64 Linux). C99 and C++.
+ * pstp_bar_sheet, which shows a bar in lines of text, pstp_phrase_match_ranked, which lists the best bars first, and the calls with a
+ * handle (pstp_check), for a segment that is checked once and asked often. docs/FORMAT.md describes the format, the order of the checks and
+ * the rules of the search; docs/GLOSSARY.md explains the words. Link with libpstp.a (`rt staticlib pstp`, x86-64 Linux). C99 and C++.
  *
  * What every call guarantees
  *
@@ -210,6 +210,16 @@ pstp_reply pstp_near_match(const uint8_t *segment, size_t segment_len, const uin
 pstp_reply pstp_near_match_terms_strs(const uint8_t *segment, size_t segment_len, const uint8_t *text, size_t text_len,
                                       const uint32_t *ends, size_t ends_len, uint32_t window, bool ordered, uint32_t *ids,
                                       size_t ids_len);
+
+/* The phrase search, the best bars first: the documents of pstp_phrase_match_strs, each once, with the number of different starts at
+ * which the phrase fits in it. Starts whose phrases overlap are different: a term on 0, 1, 2, 3 has the phrase of that term twice at 3.
+ * first: number of documents, each with one element of ids and of counts: counts[i] is that of ids[i], at least 1. By decreasing count, and
+ * of equal counts by increasing id.
+ * Refusals: those of pstp_phrase_match_strs, the last of them 13/1 ids; 13/2 counts. The index of both is the number of documents.
+ * No names: none, as there. The answer is sorted in place, in n log n steps for n documents, whatever their order. */
+pstp_reply pstp_phrase_match_ranked(const uint8_t *segment, size_t segment_len, const uint8_t *text, size_t text_len,
+                                    const uint32_t *ends, size_t ends_len, uint32_t *ids, size_t ids_len, uint32_t *counts,
+                                    size_t counts_len);
 
 /* Checked once, asked often
  *

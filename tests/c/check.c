@@ -86,6 +86,7 @@ int main(void) {
     test_decoding();
     test_reading();
     test_searching();
+    test_ranked();
     test_writing();
     test_midi();
     test_midi_events();

@@ -37,6 +37,7 @@ void test_opening(void);
 void test_decoding(void);
 void test_reading(void);
 void test_searching(void);
+void test_ranked(void);
 void test_writing(void);
 void test_midi(void);
 void test_midi_events(void);

@@ -73,6 +73,8 @@ static void test_refused(const char *note, const struct bytes *s, pstp_reply wan
         expect_reply(note, pstp_phrase_match_strs(s->at, s->len, a, 1, one, 1, x.place, room), want);
         expect_reply(note, pstp_phrase_match_strs(s->at, s->len, ab, 2, two, 2, x.place, room), want);
         expect_reply(note, pstp_phrase_match_strs(s->at, s->len, ba, 2, two, 2, x.place, room), want);
+        expect_reply(note, pstp_phrase_match_ranked(s->at, s->len, a, 1, one, 1, x.place, room, y.place, room), want);
+        expect_reply(note, pstp_phrase_match_ranked(s->at, s->len, ba, 2, two, 2, x.place, room, y.place, 0), want);
         expect_reply(note, pstp_near_match(s->at, s->len, ba, 1, a, 1, 1, x.place, room), want);
         expect_reply(note, pstp_near_match_terms_strs(s->at, s->len, ba, 2, two, 2, 1, true, x.place, room), want);
         expect_reply(note, pstp_near_match_terms_strs(s->at, s->len, aa, 2, twice, 2, 1, false, x.place, room), want);
@@ -93,6 +95,7 @@ static void test_undecoded(const char *note, const struct bytes *s, uint32_t df)
     expect_reply(note, pstp_df(s->at, s->len, a, 1), accepted(df, 0));
     expect_reply(note, pstp_document_len(s->at, s->len, 7), accepted(1, 16));
     expect_reply(note, pstp_phrase_match_strs(s->at, s->len, a, 0, one, 0, x.place, 0), accepted(0, 0));
+    expect_reply(note, pstp_phrase_match_ranked(s->at, s->len, a, 0, one, 0, x.place, 0, nowhere, 0), accepted(0, 0));
     expect_reply(note, pstp_near_match(s->at, s->len, a, 1, a, 1, 0, x.place, 0), accepted(0, 0));
     expect_reply(note, pstp_near_match_terms_strs(s->at, s->len, a, 1, one, 1, 1, true, x.place, 0), accepted(0, 0));
     expect_reply(note, pstp_near_match_terms_strs(s->at, s->len, (const uint8_t *)"aa", 2, two, 2, 0, true, x.place, 0), accepted(0, 0));
@@ -132,11 +135,13 @@ static void test_first_named(void) {
                                              .entry = {{0, 1, 0, 1, 1}, {1, 1, 1, 2, 1}}});
     for (size_t i = 0; i < sizeof rows / sizeof rows[0]; i++) {
         const uint8_t *text = (const uint8_t *)rows[i].names;
-        struct lent x = lent();
+        struct lent x = lent(), y = lent();
         expect_reply(rows[i].names, pstp_phrase_match_strs(s.at, s.len, text, 3, three, 3, x.place, ROOM), rows[i].want);
+        expect_reply(rows[i].names, pstp_phrase_match_ranked(s.at, s.len, text, 3, three, 3, x.place, ROOM, y.place, ROOM), rows[i].want);
         expect_reply(rows[i].names, pstp_near_match_terms_strs(s.at, s.len, text, 3, three, 3, 9, true, x.place, ROOM), rows[i].want);
         expect_reply(rows[i].names, pstp_near_match_terms_strs(s.at, s.len, text, 3, three, 3, 9, false, x.place, ROOM), rows[i].want);
         expect_filled(rows[i].names, &x, nowhere, 0);
+        expect_filled(rows[i].names, &y, nowhere, 0);
     }
     struct lent x = lent();
     expect_reply("a then b", pstp_near_match(s.at, s.len, s.at + 136, 1, s.at + 137, 1, 1, x.place, ROOM), refused(7, 5, 0));

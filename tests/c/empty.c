@@ -21,6 +21,9 @@ void test_empty(void) {
     expect_reply(note, pstp_phrase_match_strs(s.at, s.len, kick, 4, end, 1, NULL, 0), refused(13, 1, 2));
     expect_reply(note, pstp_phrase_match_strs(s.at, s.len, NULL, 0, NULL, 0, NULL, 0), accepted(0, 0));
     expect_reply(note, pstp_phrase_match_strs(s.at, s.len, NULL, 0, none, 2, NULL, 0), accepted(0, 0));
+    expect_reply(note, pstp_phrase_match_ranked(s.at, s.len, kick, 4, end, 1, NULL, 0, NULL, 0), refused(13, 1, 2));
+    expect_reply(note, pstp_phrase_match_ranked(s.at, s.len, kick, 4, end, 1, x.place, ROOM, NULL, 0), refused(13, 2, 2));
+    expect_reply(note, pstp_phrase_match_ranked(s.at, s.len, NULL, 0, NULL, 0, NULL, 0, NULL, 0), accepted(0, 0));
     expect_reply(note, pstp_near_match(s.at, s.len, kick, 4, kick, 4, 4, NULL, 0), refused(13, 1, 1));
     expect_reply(note, pstp_near_match(s.at, s.len, NULL, 0, NULL, 0, 4, NULL, 0), accepted(0, 0));
     expect_reply(note, pstp_near_match_terms_strs(s.at, s.len, NULL, 0, NULL, 0, 4, true, NULL, 0), accepted(0, 0));

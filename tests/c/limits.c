@@ -33,6 +33,7 @@ static void test_long_names(const uint8_t *name) {
         expect_reply("a long name: term_postings", pstp_term_postings(s, n, name, len, x.place, 0, y.place, 0, z.place, 0), want);
         expect_reply("a long name: positions", pstp_positions(s, n, name, len, 3, x.place, 0), want);
         expect_reply("a long name: phrase", pstp_phrase_match_strs(s, n, name, len, end, 1, x.place, 0), want);
+        expect_reply("a long name: ranked", pstp_phrase_match_ranked(s, n, name, len, end, 1, x.place, 0, y.place, 0), want);
         expect_reply("a long first name: near_match", pstp_near_match(s, n, name, len, name, 1, 1, x.place, 0), want);
         expect_reply("a long second name: near_match", pstp_near_match(s, n, name, 1, name, len, 1, x.place, 0), want);
         expect_reply("a long text: near, idle", pstp_near_match_terms_strs(s, n, name, len, end, 2, 0, false, x.place, 0), want);
@@ -55,7 +56,7 @@ static void test_long_names(const uint8_t *name) {
 static void test_many_names(void) {
     uint8_t text[129];
     uint32_t rise[129], fall[129];
-    struct lent x = lent();
+    struct lent x = lent(), y = lent();
     memset(text, 'a', sizeof text);
     for (uint32_t i = 0; i < 129; i++) {
         rise[i] = i + 1;
@@ -64,10 +65,13 @@ static void test_many_names(void) {
     const uint8_t *s = segment.at;
     size_t n = segment.len;
     expect_reply("128 names: phrase", pstp_phrase_match_strs(s, n, text, 128, rise, 128, x.place, 0), accepted(0, 0));
+    expect_reply("128 names: ranked", pstp_phrase_match_ranked(s, n, text, 128, rise, 128, x.place, 0, y.place, 0), accepted(0, 0));
     expect_reply("128 names: ordered", pstp_near_match_terms_strs(s, n, text, 128, rise, 128, 1, true, x.place, 0), accepted(0, 0));
     expect_reply("128 names: unordered", pstp_near_match_terms_strs(s, n, text, 128, rise, 128, 1, false, x.place, 0), accepted(0, 0));
     for (size_t len = 71; len <= n; len += n - 71) {
         expect_reply("129 names: phrase", pstp_phrase_match_strs(s, len, text, 129, rise, 129, x.place, 0), refused(12, 0, 0));
+        expect_reply("129 names: ranked", pstp_phrase_match_ranked(s, len, text, 129, fall, 129, x.place, 0, y.place, 0),
+                     refused(12, 0, 0));
         expect_reply("129 names: near", pstp_near_match_terms_strs(s, len, text, 129, rise, 129, 1, true, x.place, 0), refused(12, 0, 0));
         expect_reply("129 names: idle", pstp_near_match_terms_strs(s, len, text, 129, rise, 129, 0, false, x.place, 0), refused(12, 0, 0));
         expect_reply("12 before 11", pstp_phrase_match_strs(s, len, text, 129, fall, 129, x.place, 0), refused(12, 0, 0));
@@ -83,6 +87,7 @@ static void test_many_names(void) {
     text[0] = 0xFF;
     expect_reply("12 before 10", pstp_phrase_match_strs(s, n, text, 129, rise, 129, x.place, 0), refused(12, 0, 0));
     expect_filled("many names", &x, nowhere, 0);
+    expect_filled("many names", &y, nowhere, 0);
 }
 
 /* 128 names that are all there: 128 terms, one on each step of bar 5, and all on the last step of bar 9. */
@@ -90,7 +95,7 @@ static void test_full_question(void) {
     static uint8_t text[128 * 2], out[16384];
     static uint32_t ends[128], posting_counts[128], posting_ids[256], position_counts[256], positions[256];
     const uint32_t ids[] = {5, 9}, lengths[] = {128, 1};
-    struct lent x = lent();
+    struct lent x = lent(), y = lent();
     for (uint32_t i = 0; i < 128; i++) {
         text[2 * i] = (uint8_t)('A' + i / 16);
         text[2 * i + 1] = (uint8_t)('a' + i % 16);
@@ -110,6 +115,12 @@ static void test_full_question(void) {
     expect_reply("128 terms: open", pstp_open(out, n), accepted(2, 128));
     expect_reply("128 terms: phrase", pstp_phrase_match_strs(out, n, text, sizeof text, ends, 128, x.place, ROOM), accepted(1, 0));
     expect_filled("128 terms: phrase", &x, both, 1);
+    x = lent();
+    const uint32_t once[] = {1};
+    expect_reply("128 terms: ranked", pstp_phrase_match_ranked(out, n, text, sizeof text, ends, 128, x.place, 1, y.place, 1),
+                 accepted(1, 0));
+    expect_filled("128 terms: ranked", &x, both, 1);
+    expect_filled("128 terms: ranked", &y, once, 1);
     x = lent();
     expect_reply("128 terms: ordered", pstp_near_match_terms_strs(out, n, text, sizeof text, ends, 128, 127, true, x.place, ROOM),
                  accepted(1, 0));

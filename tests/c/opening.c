@@ -165,6 +165,8 @@ static void test_no_call_opens(const char *note, const struct bytes *s, pstp_rep
     expect_reply(note, pstp_positions(s->at, s->len, kick, 4, 3, a.place, ROOM), want);
     expect_reply(note, pstp_phrase_match_strs(s->at, s->len, kick, 4, ends, 2, a.place, ROOM), want);
     expect_reply(note, pstp_phrase_match_strs(s->at, s->len, kick, 0, ends, 0, a.place, ROOM), want);
+    expect_reply(note, pstp_phrase_match_ranked(s->at, s->len, kick, 4, ends, 2, a.place, ROOM, b.place, ROOM), want);
+    expect_reply(note, pstp_phrase_match_ranked(s->at, s->len, kick, 0, ends, 0, a.place, 0, b.place, 0), want);
     expect_reply(note, pstp_near_match(s->at, s->len, kick, 2, kick + 2, 2, 1, a.place, ROOM), want);
     expect_reply(note, pstp_near_match(s->at, s->len, kick, 2, kick + 2, 2, 0, a.place, ROOM), want);
     expect_reply(note, pstp_near_match_terms_strs(s->at, s->len, kick, 4, ends, 2, 1, true, a.place, ROOM), want);

@@ -170,7 +170,7 @@ static void test_text(const struct text *row) {
     struct bytes s = two_bars();
     struct bytes text = {{0}, 0};
     struct numbers ends = numbers(row->ends);
-    struct lent x = lent();
+    struct lent x = lent(), y = lent();
     size_t len = 0;
     while (row->text[len]) {
         len++;
@@ -180,6 +180,8 @@ static void test_text(const struct text *row) {
         size_t segment_len = cut ? 71 : s.len;
         pstp_reply want = row->kind ? refused(row->kind, 0, 0) : cut ? refused(PSTP_TRUNCATED, PSTP_SECTION_HEADER, 0) : accepted(0, 0);
         expect_reply(row->note, pstp_phrase_match_strs(s.at, segment_len, text.at, text.len, ends.at, ends.len, x.place, ROOM), want);
+        expect_reply(row->note,
+                     pstp_phrase_match_ranked(s.at, segment_len, text.at, text.len, ends.at, ends.len, x.place, ROOM, y.place, ROOM), want);
         struct asked asked = with_names(ASK_PHRASE, &s, &text, &ends);
         asked.segment_len = segment_len;
         expect_alike(row->note, &asked);
@@ -196,6 +198,7 @@ static void test_text(const struct text *row) {
         }
     }
     expect_filled(row->note, &x, nowhere, 0);
+    expect_filled(row->note, &y, nowhere, 0);
 }
 
 void test_searching(void) {

@@ -71,6 +71,12 @@ static void phrase(void) {
 static void short_phrase(void) {
     reply = pstp_phrase_match_strs(segment, segment_len, text, 4, ends, 2, ids, room);
 }
+static void ranked(void) {
+    reply = pstp_phrase_match_ranked(segment, segment_len, text, 256, ends, 128, ids, room, more_ids, room);
+}
+static void short_ranked(void) {
+    reply = pstp_phrase_match_ranked(segment, segment_len, text, 4, ends, 2, ids, room, more_ids, room);
+}
 static void ordered(void) {
     reply = pstp_near_match_terms_strs(segment, segment_len, text, 4, ends, 2, 1, true, ids, room);
 }
@@ -138,6 +144,8 @@ static const struct row calls[] = {
     {"term_postings", postings, 3, 6, 0, 0, OTHER},
     {"phrase of 128", phrase, 0, 0, 0, 0, SEARCH},
     {"phrase of two", short_phrase, 3, 0, 0, 0, SEARCH},
+    {"ranked phrase of 128", ranked, 0, 0, 0, 0, SEARCH},
+    {"ranked phrase of two", short_ranked, 3, 0, 0, 0, SEARCH},
     {"ordered", ordered, 3, 0, 0, 0, SEARCH},
     {"unordered", unordered, 3, 0, 0, 0, SEARCH},
     {"near_match", near_two, 3, 0, 0, 0, SEARCH},

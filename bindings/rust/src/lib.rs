@@ -24,11 +24,13 @@
 //!
 //! - Each call opens the segment again: the library keeps nothing between calls. A call therefore reads the whole segment once, and every
 //!   method returns a [`Result`]; after [`RawPositionalSegment::open`] has accepted the bytes, opening them again cannot fail.
-//!   [`RawPositionalSegment::check`] gives a [`CheckedSegment`], which is asked the same questions and checks nothing again, and
+//!   [`RawPositionalSegment::check`] gives a [`CheckedSegment`], which is asked the questions of document 01 and checks nothing
+//!   again, and
 //!   [`RawPositionalSegment::open_once`] an [`OpenedSegment`], which still decodes the lists of each question, as the original does.
 //! - A question has at most 128 terms, and each list at most 16,777,216 elements; otherwise [`Error::TooLarge`].
-//! - Files and the hash-map index are left out. [`midi_bars`], which reads bars from a MIDI file, and
-//!   [`RawPositionalSegment::bar_sheet`], which puts a bar on paper, are added.
+//! - Files and the hash-map index are left out. [`midi_bars`], which reads bars from a MIDI file,
+//!   [`RawPositionalSegment::bar_sheet`], which puts a bar on paper, and [`RawPositionalSegment::phrase_match_ranked`], which lists the
+//!   best bars first, are added.
 #![deny(missing_docs)]
 #![deny(unsafe_code)]
 

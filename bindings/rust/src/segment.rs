@@ -107,6 +107,31 @@ impl<'a> RawPositionalSegment<'a> {
         self.documents(|ids| sys::phrase_match_strs(self.bytes, &names, ids))
     }
 
+    /// Phrase match, the best documents first: the documents of [`phrase_match_strs`](Self::phrase_match_strs), each once, with the number
+    /// of different starts at which the phrase fits in it.
+    ///
+    /// By decreasing count; of equal counts, by increasing id.
+    ///
+    /// ```
+    /// # use pstp::{write_positional_segment, PositionalPosting, PositionalTermPostings, RawPositionalSegment};
+    /// # let hit = |doc_id, positions| PositionalPosting { doc_id, positions };
+    /// # let hat = vec![hit(1, &[0, 2]), hit(2, &[0, 1]), hit(4, &[0, 1, 2, 3]), hit(9, &[2, 3])];
+    /// # let lengths = [(1, 8), (2, 8), (4, 8), (9, 8)];
+    /// # let bytes = write_positional_segment(&lengths, &[PositionalTermPostings { term: "hat", postings: hat }])?;
+    /// let segment = RawPositionalSegment::open(&bytes)?;
+    /// // Bar 4 has hats on 0, 1, 2, 3: two in a row fit at three starts.
+    /// assert_eq!(segment.phrase_match_ranked(&["hat", "hat"])?, [(4, 3), (2, 1), (9, 1)]);
+    /// # Ok::<(), pstp::Error>(())
+    /// ```
+    pub fn phrase_match_ranked(&self, phrase: &[&str]) -> Result<Vec<(DocId, u32)>, Error> {
+        let names = Names::of(phrase)?;
+        let mut ids = self.room_for_documents();
+        let mut counts = self.room_for_documents();
+        let answer =
+            sys::phrase_match_ranked(self.bytes, &names, &mut ids, &mut counts).answer()?;
+        Ok(front(ids, answer.0).into_iter().zip(counts).collect())
+    }
+
     /// Proximity match: returns docs where `a` and `b` occur within `window` tokens, in any order.
     ///
     /// If `a` equals `b`, it must occur twice. A window of 0 matches nothing.

@@ -6,12 +6,14 @@
 
 pub(crate) mod handle;
 mod midi;
+mod ranked;
 mod sheet;
 
 use crate::flat::{Lists, Names};
 use crate::Error;
 
 pub(crate) use midi::midi_bars;
+pub(crate) use ranked::phrase_match_ranked;
 pub(crate) use sheet::bar_sheet;
 
 /// Every call's reply.

@@ -69,13 +69,26 @@ impl Bars {
             .collect()
     }
 
-    fn phrase(&self, names: &[&str], id: u32) -> bool {
-        (0..12).any(|start| {
+    /// At how many starts the phrase fits.
+    fn starts(&self, names: &[&str], id: u32) -> u32 {
+        let fits = |&start: &u32| {
             names
                 .iter()
                 .zip(start..)
                 .all(|(name, step)| self.own(name, id).contains(&step))
-        })
+        };
+        (0..12).filter(fits).count() as u32
+    }
+
+    /// The bars that have the phrase, most starts first, then by id.
+    fn ranked(&self, names: &[&str]) -> Vec<(u32, u32)> {
+        let found = self.meeting(|id| self.starts(names, id) > 0);
+        let mut ranked: Vec<_> = found
+            .iter()
+            .map(|&id| (id, self.starts(names, id)))
+            .collect();
+        ranked.sort_by_key(|&(id, starts)| (u32::MAX - starts, id));
+        ranked
     }
 
     /// Some rising choice of steps, one for each sound in turn, the last at most `end`.
@@ -142,10 +155,16 @@ fn as_the_rules_say() {
                 .map(|_| NAMES[random.below(5) as usize])
                 .collect();
             let window = 1 + random.below(9);
-            let phrase = bars.meeting(|id| bars.phrase(&names, id));
+            let phrase = bars.meeting(|id| bars.starts(&names, id) > 0);
             let ordered = bars.meeting(|id| bars.ordered(&names, window, id));
             let unordered = bars.meeting(|id| bars.unordered(&names, window, id));
             assert_eq!(segment.phrase_match_strs(&names).unwrap(), phrase);
+            for names in [&names[..], &names[..1]] {
+                assert_eq!(
+                    segment.phrase_match_ranked(names).unwrap(),
+                    bars.ranked(names)
+                );
+            }
             assert_eq!(
                 segment.near_match_terms_strs(&names, window, true).unwrap(),
                 ordered

@@ -141,6 +141,10 @@ fn decoding() {
             segment.phrase_match_strs(&["tom", "kick"]).unwrap_err(),
             want
         );
+        assert_eq!(
+            segment.phrase_match_ranked(&["tom", "kick"]).unwrap_err(),
+            want
+        );
         assert_eq!(segment.near_match("kick", "snare", 1).unwrap_err(), want);
         assert_eq!(
             segment
@@ -231,6 +235,7 @@ fn limits() {
     let bytes = two_bars();
     let segment = RawPositionalSegment::open(&bytes).unwrap();
     assert_eq!(segment.phrase_match_strs(&["kick"; 128]).unwrap(), []);
+    assert_eq!(segment.phrase_match_ranked(&["kick"; 128]).unwrap(), []);
     assert_eq!(
         segment.phrase_match_strs(&["kick"; 129]).unwrap_err(),
         Error::TooLarge

@@ -23,6 +23,7 @@ fn nothing_written() {
     assert_eq!((segment.doc_count(), segment.term_count()), (0, 0));
     assert_eq!(segment.document_lengths().unwrap(), []);
     assert_eq!(segment.phrase_match_strs(&["kick"]).unwrap(), []);
+    assert_eq!(segment.phrase_match_ranked(&["kick"]).unwrap(), []);
 }
 
 #[test]
@@ -100,6 +101,28 @@ fn phrases() {
     for (phrase, want) in cases {
         assert_eq!(
             segment.phrase_match_strs(phrase).unwrap(),
+            want,
+            "{phrase:?}"
+        );
+    }
+}
+
+#[test]
+fn ranked() {
+    let bytes = two_bars();
+    let segment = RawPositionalSegment::open(&bytes).unwrap();
+    let cases: [(&[&str], &[(u32, u32)]); 7] = [
+        (&["kick"], &[(3, 3), (7, 1)]),
+        (&["snare"], &[(3, 2), (7, 2)]),
+        (&["kick", "snare"], &[(7, 1)]),
+        (&["snare", "snare"], &[(7, 1)]),
+        (&["kick", "tom"], &[]),
+        (&[""], &[]),
+        (&[], &[]),
+    ];
+    for (phrase, want) in cases {
+        assert_eq!(
+            segment.phrase_match_ranked(phrase).unwrap(),
             want,
             "{phrase:?}"
         );

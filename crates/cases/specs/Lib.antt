@@ -26,6 +26,7 @@ pub mod Near-misses
 pub mod Not-written
 pub mod Numbers
 pub mod Question-order
+pub mod Ranked
 pub mod Refusals
 pub mod Replies
 pub mod Sheet-lines

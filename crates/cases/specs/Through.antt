@@ -31,6 +31,8 @@ use Rattle.rules.specs.Rules as rules
 use Rattle.rules.specs.Different.{different}
 use Rattle.calls.specs.Questions.{under, decode-names, check-names, check-question, two-checks, answer, answers, search, search-text}
 use Rattle.calls.specs.Questions.{search-two}
+use Rattle.calls.specs.Order.{stands-before, put-in, ranked}
+use Rattle.calls.specs.Ranked.{ranked-answer, ranked-answers, search-ranked}
 use Rattle.midi_read.specs.Files as midi
 use Rattle.midi_bars.specs.Bars.{rising-from, bar-count, sounds-of, bars-of, given-of, lists-of}
 use Rattle.midi_bars.specs.Bars as bars
@@ -97,6 +99,10 @@ unfolding opening decoding names ends-fit entry-of postings-of positions-of ever
     chain-from ordered unordered-at unordered under different decode-names answer answers search check-names check-question two-checks
     search-text search-two
 asking = tt
+
+unfoldable pub ranking : Unit {0}
+unfolding asking stands-before put-in ranked ranked-answer ranked-answers search-ranked
+ranking = tt
 
 unfoldable pub from-records : Unit {0}
 unfolding write-records

@@ -1,12 +1,15 @@
-// The searches. Each answers first: how many documents meet the question, and their ids, rising, in the buffer; or a refusal.
+// The searches. Each answers first: how many documents meet the question, and their ids in a buffer, rising or the best first; or a
+// refusal.
 use crate::reply::Reply;
 use crate::reply::of_counted;
+use ask_ranked::questions::phrase_match_ranked;
 use ask_search::questions::near_match;
 use ask_search::questions::near_match_terms_strs;
 use ask_search::questions::phrase_match_strs;
 use rules::rule::Rule;
 ghost use Rattle.common.specs.Slices.{was, left};
 ghost use Rattle.rules.specs.Kinds.{near-rule};
+ghost use Rattle.ask_ranked.specs.Promise.{Ranked-answered};
 ghost use Rattle.ask_search.specs.Promise.{Text-answered, Two-answered};
 ghost use Rattle.pstp.specs.Promise.{Replied, counted-reply};
 
@@ -51,4 +54,20 @@ pub extern "C" fn pstp_near_match_terms_strs(
         (left ids)) r ⌝ }
 {
     of_counted(near_match_terms_strs(bytes, text, ends, window, ordered, ids))
+}
+
+// first: the number of documents in which the names have consecutive positions; their ids and beside each at how many starts, the best
+// first.
+#[no_mangle]
+pub extern "C" fn pstp_phrase_match_ranked(
+    bytes: &[u8],
+    text: &[u8],
+    ends: &[u32],
+    ids: &mut [u32],
+    counts: &mut [u32],
+) -> Reply
+    ensures { λ r. ⌜ Replied counted-reply (λ a. Ranked-answered (was bytes) (was text) (was ends) (was ids) (was counts) a (left ids)
+        (left counts)) r ⌝ }
+{
+    of_counted(phrase_match_ranked(bytes, text, ends, ids, counts))
 }
