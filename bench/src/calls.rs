@@ -35,6 +35,8 @@ pub enum Call {
     Near(Names, u32, bool),
     /// The names of the directory, which the original does not give out, and the bar.
     BarSheet(Names, u32),
+    /// A phrase, the best bars first.
+    Ranked(Names),
 }
 
 impl Call {
@@ -52,6 +54,7 @@ impl Call {
             Call::Near(names, _, true) => format!("near of {}, ordered", names.strs.len()),
             Call::Near(names, _, false) => format!("near of {}, unordered", names.strs.len()),
             Call::BarSheet(..) => "bar_sheet".into(),
+            Call::Ranked(names) => format!("ranked phrase of {}", names.strs.len()),
         }
     }
 }
@@ -75,6 +78,8 @@ pub fn all(id: u32) -> Vec<Call> {
         Call::Near(Names::new(&three), 4, false),
         Call::NearMatch("snare", "clap", 4),
         Call::BarSheet(Names::new(&crate::data::names()), id),
+        Call::Ranked(Names::new(&fill[..2])),
+        Call::Ranked(Names::new(&fill[..4])),
     ]
 }
 
@@ -101,7 +106,7 @@ pub fn answered(call: &Call, r: Reply, b: &Buffers) -> Answer {
         Call::Open => (vec![r.first], vec![]),
         Call::DocumentLen(_) => (vec![r.first, r.second], vec![]),
         Call::Df(_) => (vec![r.first], vec![]),
-        Call::DocumentLengths => (vec![], vec![b.ids[..first].to_vec(), b.seconds[..first].to_vec()]),
+        Call::DocumentLengths | Call::Ranked(_) => (vec![], vec![b.ids[..first].to_vec(), b.seconds[..first].to_vec()]),
         Call::TermPostings(_) => {
             let positions = b.positions[..r.second as usize].to_vec();
             (vec![], vec![b.ids[..first].to_vec(), b.seconds[..first].to_vec(), positions])

@@ -85,7 +85,7 @@ pub fn check(s: &[u8]) -> Handle {
 
 /// Whether there is such a call with a handle.
 pub fn has(call: &Call) -> bool {
-    !matches!(call, Call::Open | Call::DocumentLengths | Call::BarSheet(..))
+    !matches!(call, Call::Open | Call::DocumentLengths | Call::BarSheet(..) | Call::Ranked(_))
 }
 
 /// A call with a handle.
@@ -121,7 +121,7 @@ pub fn ask(call: &Call, s: &[u8], h: Handle, b: &mut Buffers) -> Reply {
                 ids,
                 a,
             ),
-            Call::Open | Call::DocumentLengths | Call::BarSheet(..) => panic!("{} has no handle", call.name()),
+            Call::Open | Call::DocumentLengths | Call::BarSheet(..) | Call::Ranked(_) => panic!("{} has no handle", call.name()),
         }
     }
 }

@@ -38,6 +38,18 @@ extern "C" {
     ) -> Reply;
     fn pstp_positions(s: Bytes, n: usize, name: Bytes, m: usize, id: u32, positions: Lent, a: usize) -> Reply;
     fn pstp_phrase_match_strs(s: Bytes, n: usize, text: Bytes, m: usize, ends: Numbers, k: usize, ids: Lent, a: usize) -> Reply;
+    fn pstp_phrase_match_ranked(
+        s: Bytes,
+        n: usize,
+        text: Bytes,
+        m: usize,
+        ends: Numbers,
+        k: usize,
+        ids: Lent,
+        a: usize,
+        counts: Lent,
+        b: usize,
+    ) -> Reply;
     fn pstp_near_match(s: Bytes, n: usize, a: Bytes, m: usize, b: Bytes, k: usize, window: u32, ids: Lent, l: usize) -> Reply;
     fn pstp_near_match_terms_strs(
         s: Bytes,
@@ -132,6 +144,10 @@ pub fn ask(call: &Call, s: &[u8], b: &mut Buffers) -> Reply {
             Call::Phrase(q) => pstp_phrase_match_strs(p, n, q.text.as_ptr(), q.text.len(), q.ends.as_ptr(), q.ends.len(), ids, a),
             Call::NearMatch(x, y, window) => pstp_near_match(p, n, x.as_ptr(), x.len(), y.as_ptr(), y.len(), *window, ids, a),
             Call::BarSheet(_, id) => pstp_bar_sheet(p, n, *id, sheet, l),
+            Call::Ranked(q) => {
+                let (text, ends) = (&q.text, &q.ends);
+                pstp_phrase_match_ranked(p, n, text.as_ptr(), text.len(), ends.as_ptr(), ends.len(), ids, a, seconds, e)
+            }
             Call::Near(q, window, ordered) => pstp_near_match_terms_strs(
                 p,
                 n,

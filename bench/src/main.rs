@@ -7,14 +7,16 @@
 //!   bench limits                       the lists at their limits
 //!   bench midi                         bars from MIDI files
 //!   bench sheet                        a bar on paper
+//!   bench ranked [--quick]             the best bars first
 //!   bench checksum                     bytes a second
 //!   bench stack                        the stack of every call
-//! Read in this order: data, calls, library, drawn, originals, measure, compare, checksum, limits, plain, midi, sheet, stack, report, text;
-//! then words, handles, fts5, often, growth, report_often.
+//! Read in this order: data, calls, library, drawn, counted, originals, measure, compare, checksum, limits, plain, midi, sheet, stack,
+//! report, text; then words, handles, fts5, often, growth, report_often; then ranked, orders, report_ranked.
 mod again;
 mod calls;
 mod checksum;
 mod compare;
+mod counted;
 mod data;
 mod drawn;
 #[cfg(sqlite)]
@@ -29,10 +31,13 @@ mod limits;
 mod measure;
 mod midi;
 mod often;
+mod orders;
 mod originals;
 mod plain;
+mod ranked;
 mod report;
 mod report_often;
+mod report_ranked;
 mod sheet;
 mod stack;
 mod text;
@@ -63,6 +68,7 @@ fn depths() -> Vec<(String, Vec<usize>)> {
         }
         all.push((call.name(), depths));
     }
+    all.extend(ranked::depths(&bytes).map(|(name, depth)| (name, vec![depth])));
     let once = stack::depth(&mut || {
         black_box(handles::open_once(&bytes));
     });
@@ -114,6 +120,10 @@ fn main() {
             report::sheets(&sheet::all(&[1000, 10_000, 100_000], 15));
             return report::sheets(&sheet::scattered(100_000, &[50, 500, 5000], 3));
         }
+        [only, how @ ..] if only == "ranked" => {
+            let quick = !how.is_empty();
+            return report_ranked::section(&ranked::all(&ranked::sizes(quick)), &orders::all(&orders::sizes(quick)));
+        }
         [only, how @ ..] if only == "often" => {
             let sizes = often::all(!how.is_empty());
             return report_often::section(&sizes, &growth::all(&sizes, !how.is_empty()));
@@ -138,6 +148,9 @@ fn main() {
 
     let sheets = sheet::all(&[1000, 10_000, 100_000], if quick { 5 } else { 15 });
     let scattered = sheet::scattered(100_000, &[50, 500, 5000], if quick { 1 } else { 3 });
+
+    let ranked = ranked::all(&ranked::sizes(quick));
+    let orders = orders::all(&orders::sizes(quick));
 
     let checksums = checksum::all(&[4096, if quick { 1 << 20 } else { 1 << 24 }], if quick { 5 } else { 15 });
 
@@ -169,6 +182,8 @@ fn main() {
     report::sheets(&sheets);
     println!("\n{}", text::SCATTERED);
     report::sheets(&scattered);
+    println!("\n## Best bars first\n");
+    report_ranked::section(&ranked, &orders);
     println!("\n## Stack and code\n\n{}", text::STACK);
     report::stack(&depths());
     println!("\nThe library's machine code has {} bytes, its constants {}.", report::grouped(code), report::grouped(constants));

@@ -5,10 +5,11 @@ macro_rules! original {
     ($name:ident, $from:ident) => {
         pub mod $name {
             use crate::calls::{Answer, Call};
+            use crate::counted::{self, Posting};
             use crate::data::Lists;
             use crate::drawn;
             use std::hint::black_box;
-            use $from::positional::raw::{write_positional_segment, RawPositionalSegment};
+            use $from::positional::raw::{write_positional_segment, RawPositionalPosting, RawPositionalSegment};
             use $from::positional::{PositionalPosting, PositionalTermPostings};
 
             pub type Segment<'a> = RawPositionalSegment<'a>;
@@ -33,6 +34,7 @@ macro_rules! original {
                         drop(black_box(s.near_match_terms_strs(&q.strs, *w, *ordered).expect("decodes")))
                     }
                     Call::BarSheet(names, id) => drop(black_box(sheet(s, &names.strs, *id))),
+                    Call::Ranked(q) => drop(black_box(ranked(s, &q.strs))),
                 }
             }
 
@@ -61,6 +63,10 @@ macro_rules! original {
                     Call::NearMatch(x, y, w) => a.lists.push(s.near_match(x, y, *w).expect("decodes")),
                     Call::Near(q, w, ordered) => a.lists.push(s.near_match_terms_strs(&q.strs, *w, *ordered).expect("decodes")),
                     Call::BarSheet(names, id) => a.text = sheet(s, &names.strs, *id),
+                    Call::Ranked(q) => {
+                        let (ids, counts) = ranked(s, &q.strs).into_iter().unzip();
+                        a.lists = vec![ids, counts];
+                    }
                 }
                 a
             }
@@ -76,6 +82,45 @@ macro_rules! original {
                     }
                 }
                 sheet
+            }
+
+            impl Posting for RawPositionalPosting {
+                fn id(&self) -> u32 {
+                    self.doc_id
+                }
+
+                fn positions(&self) -> &[u32] {
+                    &self.positions
+                }
+            }
+
+            /// What a program without a ranked answer does: the bars found by the original, each list decoded once more for the starts.
+            pub fn ranked(s: &Segment<'_>, names: &[&str]) -> Vec<(u32, u32)> {
+                let ids = s.phrase_match_strs(names).expect("decodes");
+                best_first(s, names, Some(ids))
+            }
+
+            /// The same without the original's search: each list is decoded once, and the bars of the rarest are tried.
+            pub fn ranked_at_once(s: &Segment<'_>, names: &[&str]) -> Vec<(u32, u32)> {
+                best_first(s, names, None)
+            }
+
+            fn best_first(s: &Segment<'_>, names: &[&str], ids: Option<Vec<u32>>) -> Vec<(u32, u32)> {
+                let mut different = names.to_vec();
+                different.sort_unstable();
+                different.dedup();
+                let lists: Vec<_> = different.iter().map(|name| s.term_postings(name).expect("decodes")).collect();
+                let of = |name: &&str| &lists[different.binary_search(name).expect("one of them")][..];
+                let each: Vec<&[RawPositionalPosting]> = names.iter().map(of).collect();
+                let mut found = match ids {
+                    Some(ids) => counted::counted(ids, &each),
+                    None => {
+                        let rarest = lists.iter().min_by_key(|list| list.len()).expect("a name");
+                        counted::counted(rarest.iter().map(|posting| posting.doc_id), &each)
+                    }
+                };
+                counted::sort(&mut found);
+                found
             }
 
             /// What the original's writer takes, over the same lists.

@@ -13,9 +13,9 @@ where a call does little else.
 ";
 
 pub const APART: &str = "\
-The library's time is the call's less an open's, taken in the same round; the Rust's is that of the method on a segment that is open, and
-for `bar_sheet` of the plain drawing. Both check the lists' own checksums, decode them and search. (What the calls that are left out
-answer, the Rust keeps from its open.)
+The library's time is the call's less an open's, taken in the same round; the Rust's is that of the method on a segment that is open, for
+`bar_sheet` of the plain drawing, for the ranked phrases of the search with the plain counting and sort. Both check the lists' own
+checksums, decode them and search. (What the calls that are left out answer, the Rust keeps from its open.)
 ";
 
 pub const GROWTH: &str = "\
@@ -114,6 +114,37 @@ of nanoseconds a document that stays level is linear.
 pub const SCATTERED: &str = "\
 Sounds that the first and the last bar alone have, in bars of 16 steps. The check of a list looks each document up from the nearest of 128
 places in the metadata, or from the one before, whichever is further on (decision 70); the Rust, in a table on the heap.
+";
+
+pub const RANKED: &str = "\
+`phrase_match_ranked` has no original: the Rust has no ranked answer. Beside it, here and in the tables above, runs what a program would
+do with the Rust's calls: it opens the segment, asks for the phrase's documents, decodes the list of each name for the starts, which the
+search does not say, counts them document by document and sorts with `sort_unstable_by_key` (`bench/src/counted.rs`). That decodes each
+list twice, so it also runs without the Rust's search (\"decoded once\"): the counting finds the documents, among those of the rarest
+list. What is allocated is also dropped. The data is that of the first tables; the phrases are the fill's first sound, its first two and
+its first four. The answers of all were compared first. The last column is what ranking adds to the library's own `phrase_match_strs`:
+1.00 would be nothing.
+";
+
+pub const WAYS: &str = "\
+The walk starts from the rarest of the phrase's lists and finds at most its documents. With a place for each of them in both buffers the
+call walks once, and fills as it finds; with less room it walks once to count and, if the room is enough, once more to fill: here with a
+place for each document found. For one name the two are the same. With a place less, for ids or for counts, it is refused with 13 after
+the walk that counts, and nothing is sorted; the replies were compared, and that both buffers stay as they were. Every call opens the
+segment and checks the lists. The last two columns are ratios to a plain search that is accepted.
+";
+
+pub const ORDERS: &str = "\
+One sound, found in every bar on as many steps as the order says: on 16 in each; on 1 to 31 in stairs that rise with the id, fall, or rise
+to the middle and fall again; on 1 to 31 at random; on 1 to 3 at random. (Counts that all differ would take more positions than a list may
+have.) The walk meets the bars by rising id, so in these orders the sort gets them. The answers were compared first. Nanoseconds a bar at
+each number of bars, then the factor from one number to the next, ten times as many: 1.00 is linear; n log n is 1.25 from 10,000 to 100,000
+and 1.20 to 1,000,000, and more where the bars leave a cache; a quadratic case would show as 10. (Few bars that are ranked over and over the
+processor learns by heart, on every side.)
+";
+
+pub const ORDERS_AIM: &str = "\
+No quadratic case: from one number of bars to ten times as many, the nanoseconds a bar at most double. The largest factor of all:
 ";
 
 pub const STACK: &str = "\

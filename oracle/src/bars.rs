@@ -3,6 +3,7 @@
 use crate::case::{Call, Case, ENDS};
 use crate::compare::{found, full_room, opened, Runner};
 use crate::given::{Given, Posting, Term};
+use crate::questions::ends_of;
 use crate::rust::{Answer, Opened};
 
 pub fn term(name: &str, postings: &[(u32, &[u32])]) -> Term {
@@ -25,13 +26,7 @@ fn tell(runner: &mut Runner, ok: bool, what: &str) {
 
 fn expect(runner: &mut Runner, case: &Case, opened: &Opened, names: &[&str], ids: &[u32]) {
     let text = names.concat().into_bytes();
-    let ends: Vec<u32> = names
-        .iter()
-        .scan(0, |end, name| {
-            *end += name.len() as u32;
-            Some(*end)
-        })
-        .collect();
+    let ends = ends_of(names);
     let mut case = case.named(&text);
     case.lists[ENDS] = &ends;
     let answer = runner.ask_full(&case, opened);

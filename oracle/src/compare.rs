@@ -5,6 +5,7 @@ use crate::handle::{self, Handles};
 use crate::lent::Buffers;
 use crate::library;
 use crate::random::Random;
+use crate::ranked::Ranked;
 use crate::reply::{Refusal, Reply};
 use crate::rust::{self, Answer, Opened, Refused, Stage};
 use crate::sample::Sample;
@@ -37,6 +38,8 @@ pub struct Runner {
     pub sample: Option<Sample>,
     /// The sheets of bars in the same segments.
     pub sheets: Sheets,
+    /// The same phrases, asked for the best bars first.
+    pub ranked: Ranked,
     /// The handles of the same segments, and the same calls with them.
     pub handles: Handles,
 }
@@ -52,6 +55,7 @@ impl Runner {
             astray: Vec::new(),
             sample,
             sheets: Sheets::new(seed),
+            ranked: Ranked::new(seed),
             handles: Handles::new(),
         }
     }
@@ -125,6 +129,7 @@ impl Runner {
         if random.chance(25) {
             self.run(case, &found, some_room(random, case, &found));
         }
+        self.ranked.beside(case, opened, &found);
         found.ok()
     }
 
@@ -132,6 +137,7 @@ impl Runner {
     pub fn ask_full(&mut self, case: &Case, opened: &Opened) -> Option<Answer> {
         let found = found(case, opened);
         self.run(case, &found, full_room(&found));
+        self.ranked.beside(case, opened, &found);
         found.ok()
     }
 

@@ -8,7 +8,8 @@
 //!   bars, worked, corners, patterns, strings, large    document 01's cases, whole small spaces, limits
 //!   show, shrink, reshape, sample                      a case as text, made smaller, and as a record of the replay list
 //!   handle                   a segment checked once and asked often: every call above with handles, and any handle with any bytes
-//!   midi, sheet              bars from MIDI files and a bar on paper, which the Rust does not have, beside models from document 02's words
+//!   midi, sheet, ranked      bars from MIDI files, a bar on paper and the best bars first, which the Rust does not have, beside models
+//!                            from document 02's words
 
 mod bars;
 mod case;
@@ -27,6 +28,7 @@ mod parts;
 mod patterns;
 mod questions;
 mod random;
+mod ranked;
 mod reply;
 mod reshape;
 mod rounds;
@@ -66,6 +68,9 @@ struct Options {
     only_sheets: bool,
     sheets: u64,
     sheet_case: Option<String>,
+    only_ranked: bool,
+    ranked: u64,
+    ranked_case: Option<String>,
     only_handles: bool,
     handles: u64,
     handle_case: Option<String>,
@@ -87,6 +92,9 @@ fn options() -> Result<Options, String> {
         only_sheets: false,
         sheets: 500_000,
         sheet_case: None,
+        only_ranked: false,
+        ranked: 500_000,
+        ranked_case: None,
         only_handles: false,
         handles: 1_000_000,
         handle_case: None,
@@ -110,6 +118,9 @@ fn options() -> Result<Options, String> {
             "--only-sheets" => options.only_sheets = true,
             "--sheets" => options.sheets = number(value()?)?,
             "--sheet-case" => options.sheet_case = Some(value()?),
+            "--only-ranked" => options.only_ranked = true,
+            "--ranked" => options.ranked = number(value()?)?,
+            "--ranked-case" => options.ranked_case = Some(value()?),
             "--only-handles" => options.only_handles = true,
             "--handles" => options.handles = number(value()?)?,
             "--handle-case" => options.handle_case = Some(value()?),
@@ -195,7 +206,7 @@ fn conclude(runner: &mut Runner) {
 
 fn compared(options: &Options) -> std::io::Result<ExitCode> {
     let mut runner = Runner::new(options.sample.is_some().then(Sample::new), options.seed);
-    let all = !options.only_midi && !options.only_sheets && !options.only_handles;
+    let all = !options.only_midi && !options.only_sheets && !options.only_ranked && !options.only_handles;
     if all {
         beside_the_rust(&mut runner, options);
     }
@@ -208,6 +219,9 @@ fn compared(options: &Options) -> std::io::Result<ExitCode> {
     }
     if all || options.only_sheets {
         sheet::all(&mut runner.sheets, options.seed, options.sheets, options.whole);
+    }
+    if all || options.only_ranked {
+        ranked::all(&mut runner.ranked, options.seed, options.ranked, options.whole);
     }
     let mut any = Any::new();
     if all || options.only_handles {
@@ -231,12 +245,16 @@ fn compared(options: &Options) -> std::io::Result<ExitCode> {
     if all || options.only_sheets {
         runner.sheets.tally.print();
     }
+    if all || options.only_ranked {
+        runner.ranked.tally.print();
+    }
     conclude(&mut runner);
     midi::conclude(&mut midi);
     sheet::conclude(&mut runner.sheets);
+    ranked::conclude(&mut runner.ranked);
     handle::conclude(&mut any);
-    let differences = runner.differences + midi.differences + runner.sheets.differences + any.differences;
-    Ok(if differences == 0 { ExitCode::SUCCESS } else { ExitCode::FAILURE })
+    let beyond = midi.differences + runner.sheets.differences + runner.ranked.differences + any.differences;
+    Ok(if runner.differences + beyond == 0 { ExitCode::SUCCESS } else { ExitCode::FAILURE })
 }
 
 fn main() -> ExitCode {
@@ -259,6 +277,9 @@ fn main() -> ExitCode {
     }
     if let Some(line) = &options.sheet_case {
         return sheet::one_case(line);
+    }
+    if let Some(line) = &options.ranked_case {
+        return ranked::one_case(line);
     }
     if let Some(line) = &options.handle_case {
         return handle::one_case(line);

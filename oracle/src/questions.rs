@@ -93,16 +93,21 @@ impl<'a> Pool<'a> {
     }
 }
 
+/// Where each name ends in the text of all of them.
+pub fn ends_of(names: &[impl AsRef<[u8]>]) -> Vec<u32> {
+    let lengths = names.iter().map(|name| name.as_ref().len() as u32);
+    lengths
+        .scan(0, |end, length| {
+            *end += length;
+            Some(*end)
+        })
+        .collect()
+}
+
 /// Names as a text with ends, now and then ends that do not fit.
 pub fn text_of(random: &mut Random, names: &[Vec<u8>]) -> (Vec<u8>, Vec<u32>) {
     let mut text = names.concat();
-    let mut ends: Vec<u32> = names
-        .iter()
-        .scan(0, |end, name| {
-            *end += name.len() as u32;
-            Some(*end)
-        })
-        .collect();
+    let mut ends = ends_of(names);
     if random.chance(4) {
         let at = random.below(ends.len() + 1);
         match random.below(6) {

@@ -196,18 +196,27 @@ fn smaller_rest(kept: &Kept) -> Vec<Kept> {
     all
 }
 
+/// Everything to try for a case.
+pub fn candidates(kept: &Kept) -> Vec<Kept> {
+    let mut all = smaller_rest(kept);
+    if kept.call == Call::Write {
+        all.extend(smaller_writes(kept));
+    } else {
+        all.extend(fewer_names(kept));
+        all.extend(smaller_segments(&kept.segment).into_iter().map(|segment| Kept { segment, ..kept.clone() }));
+    }
+    all.extend(smaller_lists(kept));
+    all
+}
+
+/// Whether trying everything would take too long.
+pub fn is_large(kept: &Kept) -> bool {
+    kept.size().0 > 20_000
+}
+
 pub fn shrunk(runner: &mut Runner, mut kept: Kept) -> Kept {
-    let large = |kept: &Kept| kept.size().0 > 20_000;
-    'again: while !large(&kept) {
-        let mut all = smaller_rest(&kept);
-        if kept.call == Call::Write {
-            all.extend(smaller_writes(&kept));
-        } else {
-            all.extend(fewer_names(&kept));
-            all.extend(smaller_segments(&kept.segment).into_iter().map(|segment| Kept { segment, ..kept.clone() }));
-        }
-        all.extend(smaller_lists(&kept));
-        for smaller in all {
+    'again: while !is_large(&kept) {
+        for smaller in candidates(&kept) {
             if smaller.size() < kept.size() && differs(runner, &smaller) {
                 kept = smaller;
                 continue 'again;

@@ -21,7 +21,7 @@ mod worked;
 pub use broken::{broken, lengthened};
 pub use compare::Sheets;
 pub use model::Paper;
-pub use shrink::one_case;
+pub use shrink::{given_of, one_case};
 
 use crate::given::Given;
 use crate::random::Random;
@@ -29,7 +29,7 @@ use crate::rust;
 use std::time::Instant;
 
 /// What the Rust writes for lists that fit; nothing for others.
-fn written(given: &Given) -> Vec<u8> {
+pub fn written(given: &Given) -> Vec<u8> {
     let nothing = crate::compare::opened(&[]);
     crate::compare::found(&given.flat().case(), &nothing).map_or(Vec::new(), |rust::Answer { bytes, .. }| bytes)
 }

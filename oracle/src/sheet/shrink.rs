@@ -68,7 +68,7 @@ pub fn one_case(line: &str) -> ExitCode {
 }
 
 /// The lists of a segment whose every list can be decoded.
-fn given_of(paper: &Paper) -> Option<Given> {
+pub fn given_of(paper: &Paper) -> Option<Given> {
     let mut terms = Vec::new();
     for sound in &paper.sounds {
         let postings = sound.list.as_ref().ok()?.iter();
