@@ -1,6 +1,7 @@
 /* The phrase search with the best bars first. Each question is asked with every pair of rooms from none to one place more than needed. */
 #include "build.h"
 #include "check.h"
+#include "guarded.h"
 
 #include <stdio.h>
 #include <stdlib.h>
@@ -63,21 +64,36 @@ static const struct question {
     {at_the_end, "a a a a", "", ""},
 };
 
+/* The call with everything at the edge of its memory; the buffers' elements afterwards. */
+static pstp_reply at_the_edge(const struct bytes *s, const struct names *n, size_t id_room, size_t count_room, bool at_end, struct lent *x,
+                              struct lent *y) {
+    const uint8_t *segment = guarded(0, at_end, s->at, s->len), *text = guarded(1, at_end, n->text.at, n->text.len);
+    const uint32_t *ends = guarded(2, at_end, n->ends.at, n->ends.len * sizeof *ends);
+    uint32_t *ids = guarded(3, at_end, x->place, id_room * sizeof *ids);
+    uint32_t *counts = guarded(4, at_end, y->place, count_room * sizeof *counts);
+    pstp_reply got = pstp_phrase_match_ranked(segment, s->len, text, n->text.len, ends, n->ends.len, ids, id_room, counts, count_room);
+    memcpy(x->place, ids, id_room * sizeof *ids);
+    memcpy(y->place, counts, count_room * sizeof *counts);
+    return got;
+}
+
 static void test_question(const struct question *q) {
     struct bytes s = q->segment();
     struct names n = names(q->names);
     struct numbers ids = numbers(q->ids), counts = numbers(q->counts);
     char note[96];
     snprintf(note, sizeof note, "%s, ranked", q->names);
+    watch(note);
     for (size_t i = 0; i <= ids.len + 1; i++) {
         for (size_t j = 0; j <= ids.len + 1; j++) {
-            struct lent x = lent(), y = lent();
-            bool fits = ids.len <= i && ids.len <= j;
-            pstp_reply want = fits ? accepted(ids.len, 0) : refused(PSTP_NO_ROOM, i < ids.len ? 1 : 2, ids.len);
-            expect_reply(note,
-                         pstp_phrase_match_ranked(s.at, s.len, n.text.at, n.text.len, n.ends.at, n.ends.len, x.place, i, y.place, j), want);
-            expect_filled(note, &x, ids.at, fits ? ids.len : 0);
-            expect_filled(note, &y, counts.at, fits ? ids.len : 0);
+            for (int at_end = 0; at_end <= 1; at_end++) {
+                struct lent x = lent(), y = lent();
+                bool fits = ids.len <= i && ids.len <= j;
+                pstp_reply want = fits ? accepted(ids.len, 0) : refused(PSTP_NO_ROOM, i < ids.len ? 1 : 2, ids.len);
+                expect_reply(note, at_the_edge(&s, &n, i, j, at_end, &x, &y), want);
+                expect_filled(note, &x, ids.at, fits ? ids.len : 0);
+                expect_filled(note, &y, counts.at, fits ? ids.len : 0);
+            }
         }
     }
 }
