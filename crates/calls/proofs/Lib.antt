@@ -13,6 +13,7 @@ pub mod Filling
 pub mod Kept
 pub mod Parts
 pub mod Flat
+pub mod Unflat
 pub mod Lengths
 pub mod Sizes
 pub mod Well-formed

@@ -28,7 +28,7 @@ use Rattle.midi_read.proofs.Fine.{read-so}
 use Rattle.midi_bars.specs.Bars.{rising-from, name-of, of-sound, in-bar, on-position, bar-count}
 use Rattle.midi_bars.specs.Bars.{sounds-of, bars-of, positions-of, posting-of, term-of, given-of, lists-of}
 use Rattle.midi_bars.specs.Claims.{Hits-fine, Struck, Accepted, Read-fine}
-use Rattle.midi_bars.proofs.Unflat.{total-joined}
+use Rattle.calls.proofs.Unflat.{total-joined}
 use Rattle.midi_bars.proofs.Shaped.{flat-shape, ends-count}
 use Rattle.midi_bars.proofs.Ranges.{range-gives, range-from, range-length, range-rising, kept-rising}
 use Rattle.midi_bars.proofs.Named.{name-text, name-before}

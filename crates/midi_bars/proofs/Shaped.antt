@@ -14,7 +14,7 @@ use Rattle.segment.proofs.Shapes.{shape-is}
 use Rattle.calls.specs.Given.{ends-from, laid-flat}
 use Rattle.common.specs.Lists.{joined}
 use Rattle.calls.specs.Acceptance.{Shape}
-use Rattle.midi_bars.proofs.Unflat.{total-joined}
+use Rattle.calls.proofs.Unflat.{total-joined}
 
 ends-fitting : (from : ℕ) (ns : List (List ℕ)) → ends-fit from (ends-from from ns) (from + length (joined ns)) ≡ true
 unfolding ends-fit

@@ -21,7 +21,7 @@ use Rattle.midi_read.specs.Files.{Grid, bar-of, position-of, step-of}
 use Rattle.midi_bars.specs.Bars.{rising-from, name-of, of-sound, in-bar, on-position, bar-count}
 use Rattle.midi_bars.specs.Bars.{sounds-of, bars-of, positions-of, posting-of, term-of, given-of, lists-of}
 use Rattle.midi_bars.specs.Claims.{Struck, Listed, Hits-held, Stands-for}
-use Rattle.midi_bars.proofs.Unflat.{given-back}
+use Rattle.calls.proofs.Unflat.{given-back}
 use Rattle.midi_bars.proofs.Ranges.{range-gives, range-from, kept-rising}
 use Rattle.midi_bars.proofs.Named.{name-one}
 

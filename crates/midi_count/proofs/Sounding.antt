@@ -25,7 +25,7 @@ use Rattle.midi_bars.specs.Claims.{Struck}
 use Rattle.midi_count.specs.Tallies.{Tallies, fresh, opens, tally}
 use Rattle.midi_count.specs.Promise.{zeros, tallies}
 use Rattle.midi_count.specs.Claims.{Counting-right}
-use Rattle.midi_bars.proofs.Unflat.{total-joined}
+use Rattle.calls.proofs.Unflat.{total-joined}
 use Rattle.midi_bars.proofs.Struck.{position-below, positions-rise, bars-rise, bar-struck, position-gives, position-from, bar-from}
 use Rattle.midi_bars.proofs.Words.{parted, step-is}
 use Rattle.midi_count.proofs.Tallying.{zeros-at}

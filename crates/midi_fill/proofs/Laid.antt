@@ -29,7 +29,7 @@ use Rattle.midi_count.specs.Promise.{zeros, tallies}
 use Rattle.midi_count.specs.Claims.{counted, Counts-right}
 use Rattle.midi_fill.specs.Stores.{Buffers, buffers, put}
 use Rattle.midi_fill.specs.Claims.{Filling-right}
-use Rattle.midi_bars.proofs.Unflat.{total-joined}
+use Rattle.calls.proofs.Unflat.{total-joined}
 use Rattle.midi_bars.proofs.Struck.{positions-rise, bars-rise}
 use Rattle.midi_count.proofs.Tallying.{zeros-at}
 use Rattle.midi_count.proofs.Runs.{runs, Grows, shifted-rise, parts-give, parts-from, parts-rise}

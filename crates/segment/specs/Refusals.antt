@@ -90,6 +90,20 @@ unknown-bar = refusal 16 0 0
 abbrev pub bar-too-long : Refusal
 bar-too-long = refusal 17 0 0
 
+-- ---- kinds of the pad (document 02)
+
+-- a bar with the id is held already
+abbrev pub already-held : Refusal
+already-held = refusal 18 0 0
+
+-- 256 bars are held, or the hits would pass 8,192
+abbrev pub pad-full : Refusal
+pad-full = refusal 19 0 0
+
+-- the words are no pad
+abbrev pub broken-pad : Refusal
+broken-pad = refusal 20 0 0
+
 -- ---- reasons of an invalid layout: in what is read
 
 abbrev pub trailing-bytes : ℕ

@@ -5,7 +5,7 @@ ghost use mathlib.Core.Path.{_≡_};
 ghost use Rattle.segment.specs.Refusals.{truncated, invalid-magic, unsupported-version, unsupported-flags, checksum-mismatch};
 ghost use Rattle.segment.specs.Refusals.{invalid-layout, invalid-varint, doc-id-overflow, position-overflow, invalid-utf8};
 ghost use Rattle.segment.specs.Refusals.{list-shape, too-large, no-room, midi-file, bar-too-far};
-ghost use Rattle.segment.specs.Refusals.{unknown-bar, bar-too-long};
+ghost use Rattle.segment.specs.Refusals.{unknown-bar, bar-too-long, already-held, pad-full, broken-pad};
 
 pub struct Refusal {
     pub kind: u32,
@@ -47,6 +47,12 @@ pub const BAR_TOO_FAR: u32 = 15;
 pub const UNKNOWN_BAR: u32 = 16;
 
 pub const BAR_TOO_LONG: u32 = 17;
+
+pub const ALREADY_HELD: u32 = 18;
+
+pub const PAD_FULL: u32 = 19;
+
+pub const BROKEN_PAD: u32 = 20;
 
 // Sections.
 pub const HEADER: u32 = 1;
@@ -273,7 +279,7 @@ pub fn bar_too_far() -> Refusal
     }
 }
 
-// Kind 16: the segment has no bar with the id asked for.
+// Kind 16: no bar has the id asked for.
 pub fn unknown_bar() -> Refusal
     ensures { λ r. ⌜ r ≡ unknown-bar ⌝ }
 {
@@ -290,6 +296,39 @@ pub fn bar_too_long() -> Refusal
 {
     Refusal {
         kind: BAR_TOO_LONG,
+        which: 0,
+        index: 0,
+    }
+}
+
+// Kind 18: the pad holds a bar with the id already.
+pub fn already_held() -> Refusal
+    ensures { λ r. ⌜ r ≡ already-held ⌝ }
+{
+    Refusal {
+        kind: ALREADY_HELD,
+        which: 0,
+        index: 0,
+    }
+}
+
+// Kind 19: the pad holds 256 bars, or its hits would pass 8,192.
+pub fn pad_full() -> Refusal
+    ensures { λ r. ⌜ r ≡ pad-full ⌝ }
+{
+    Refusal {
+        kind: PAD_FULL,
+        which: 0,
+        index: 0,
+    }
+}
+
+// Kind 20: the words are no pad.
+pub fn broken_pad() -> Refusal
+    ensures { λ r. ⌜ r ≡ broken-pad ⌝ }
+{
+    Refusal {
+        kind: BROKEN_PAD,
         which: 0,
         index: 0,
     }

@@ -12,7 +12,8 @@ pub enum Opened {
     Refused(Refusal),
 }
 
-// How many elements fill the front of the lent buffers (`document_lengths`, `docs_with_term`, `positions`, the questions).
+// How many elements fill the front of the lent buffers (`document_lengths`, `docs_with_term`, `positions`, the questions), or how many
+// hits the bar has that was saved or erased (`pad_save`, `pad_erase`).
 pub enum Counted {
     Count(usize),
     Refused(Refusal),
@@ -58,5 +59,11 @@ pub struct ListTotals {
 
 pub enum Imported {
     Totals(ListTotals),
+    Refused(Refusal),
+}
+
+// How many hits a held bar has, and its length (`pad_read`).
+pub enum BarRead {
+    Bar(usize, u32),
     Refused(Refusal),
 }

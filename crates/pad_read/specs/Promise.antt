@@ -1,0 +1,28 @@
+-- What reading back promises: the reply, and the two lent lists afterwards.
+use Prim.Native.Nat.{ℕ}
+use mathlib.Core.Path.{_≡_}
+use mathlib.Core.List.{List, map}
+use lib.ListN.{length}
+use Rattle.segment.specs.Results.{Result, ok, refuse}
+use Rattle.segment.specs.declared.replies.BarRead.{BarRead}
+use Rattle.segment.specs.declared.replies.BarRead.the-variants as back
+use Rattle.calls.specs.Replies.{filled}
+use Rattle.pad_map.specs.Bars.{Bar}
+use Rattle.pad_words.specs.Calls.{pad-read}
+
+-- how many hits, and the length
+abbrev pub read-answer : Result Bar → BarRead
+read-answer (ok b) = back.Bar (length (b .hits)) (b .len)
+read-answer (refuse x) = back.Refused x
+
+-- what goes into the lists
+abbrev pub sounds-of : Bar → List ℕ
+sounds-of b = map (λ h. h .sound) (b .hits)
+
+abbrev pub steps-of : Bar → List ℕ
+steps-of b = map (λ h. h .step) (b .hits)
+
+pub record Bar-read-back (pad : List ℕ) (id : ℕ) (sounds steps : List ℕ) (r : BarRead) (sounds′ steps′ : List ℕ) : Type 0 where
+  pub reply : r ≡ read-answer (pad-read pad id (length sounds) (length steps))
+  pub sounds-left : sounds′ ≡ filled sounds-of (pad-read pad id (length sounds) (length steps)) sounds
+  pub steps-left : steps′ ≡ filled steps-of (pad-read pad id (length sounds) (length steps)) steps

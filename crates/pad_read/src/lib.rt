@@ -1,0 +1,1 @@
+// A bar read back from the pad (read).

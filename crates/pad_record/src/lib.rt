@@ -1,0 +1,1 @@
+// The pad changed: a bar saved, a bar erased.

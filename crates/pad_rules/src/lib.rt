@@ -1,0 +1,1 @@
+// The rules for hits as code: the order of two hits (order), and the tests of the lists handed to saving (lists).

@@ -1,0 +1,8 @@
+-- What a reader must believe, in the order to read it:
+pub mod Words
+pub mod Whole
+pub mod Calls
+-- What is claimed of the definitions:
+pub mod Claims
+-- What only proofs need:
+pub mod Steps

@@ -1,0 +1,1 @@
+// The pad written out as a segment.
