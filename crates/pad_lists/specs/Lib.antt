@@ -1,1 +1,2 @@
--- To be written.
+-- What only proofs need:
+pub mod Steps

@@ -1,1 +1,5 @@
 -- Laws of the map, lowest first.
+pub mod Lookups
+pub mod Mapped
+pub mod Ordered
+pub mod Saved

@@ -7,6 +7,7 @@ use mathlib.Core.Logic.{_↔_}
 use mathlib.Core.Option.{Option, none, some}
 use lib.Dec.{eqb}
 use lib.ListN.{length}
+use Rattle.common.specs.Elements.{Rising}
 use Rattle.segment.specs.Results.{ok}
 use Rattle.pad_map.specs.Bars.{Hit, Bar, hits-in, lookup, insert, without, hits-in-all}
 use Rattle.pad_map.specs.Rules.{Comes-before, Hits-fine, before, hits-fine, check-hits}
@@ -37,6 +38,17 @@ Added = (bars : List Bar) (b : Bar) (id : ℕ) → lookup bars (b .id) ≡ none
 
 abbrev pub Taken-out : Type 0
 Taken-out = (bars : List Bar) (gone id : ℕ) → lookup (without gone bars) id ≡ cond (eqb gone id) none (lookup bars id)
+
+-- ids go on rising
+
+abbrev pub ids : List Bar → List ℕ
+ids bars = map (λ b. b .id) bars
+
+abbrev pub Added-rises : Type 0
+Added-rises = (bars : List Bar) (b : Bar) → lookup bars (b .id) ≡ none → Rising (ids bars) → Rising (ids (insert b bars))
+
+abbrev pub Taken-out-rises : Type 0
+Taken-out-rises = (bars : List Bar) (id : ℕ) → Rising (ids bars) → Rising (ids (without id bars))
 
 -- ---- room: a bar within the rules is saved exactly when its id is free and the numbers allow it, whatever was saved and erased before
 

@@ -1,1 +1,2 @@
 // A bar read back from the pad (read).
+pub mod read;

@@ -1,2 +1,4 @@
 -- What the calls promise:
 pub mod Promise
+-- What only proofs need:
+pub mod Steps

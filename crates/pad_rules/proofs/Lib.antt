@@ -1,1 +1,3 @@
 -- Laws that belong to no one function, lowest first.
+pub mod Ordering
+pub mod Listing

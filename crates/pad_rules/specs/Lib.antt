@@ -1,1 +1,1 @@
--- To be written.
+-- Crate pad_map defines the rules; nothing is added here.

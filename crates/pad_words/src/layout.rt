@@ -1,5 +1,5 @@
-// Word 0 is the number of bars, word 1 the number of their hits. Then the bars by rising id, each id, length, number of hits and the hits; a
-// hit is sound, step. What lies behind the last bar is free and may be anything.
+// Word 0 is the number of bars, word 1 the number of their hits. Then the bars by rising id, each id, length, number of hits and the hits;
+// a hit is sound, step. What lies behind the last bar is free and may be anything.
 pub const BARS: usize = 256;
 
 pub const HITS: usize = 8192;

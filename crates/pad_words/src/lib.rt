@@ -4,6 +4,6 @@
 //   check    whether the words are a pad
 //   place    where a bar begins, or where it would
 // Crate pad_read reads a bar back, pad_record saves and erases, pad_write writes out.
-
+pub mod check;
 pub mod layout;
 pub mod place;

@@ -1,0 +1,60 @@
+// A bar read back: its length, and its hits into two lent lists.
+use common::widths::long;
+use pad_words::check::is_whole;
+use pad_words::place::Place;
+use pad_words::place::place_of;
+use segment::refusal::broken_pad;
+use segment::refusal::no_room;
+use segment::refusal::unknown_bar;
+use segment::replies::BarRead;
+ghost use mathlib.Core.Path.{_≡_};
+ghost use lib.ListN.{drop};
+ghost use Rattle.common.specs.Slices.{was, left};
+ghost use Rattle.pad_words.specs.Words.{hits-of};
+ghost use Rattle.pad_read.specs.Promise.{Bar-read-back};
+ghost use Rattle.pad_read.specs.Steps.{low-byte, Fillable, Hits-filled};
+
+// The low byte of a word. Where the words are a pad, a sound is at most 127.
+fn narrow(x: u32) -> u8
+    ensures { λ r. ⌜ r ≡ low-byte x ⌝ }
+{
+    (x % 256) as u8
+}
+
+// The hits from an offset on, at the front of the two lists.
+fn fill_hits(pad: &[u32], from: usize, count: usize, sounds: &mut [u8], steps: &mut [u32])
+    requires { ⌜ Fillable (now pad) from count (now sounds) (now steps) ⌝ }
+    ensures { λ r. ⌜ Hits-filled (hits-of count (drop from (was pad))) (was sounds) (was steps) (left sounds) (left steps) ⌝ }
+{
+    let mut at = from;
+    let mut i: usize = 0;
+    while i < count {
+        sounds[i] = narrow(pad[at]);
+        steps[i] = pad[at + 1];
+        at += 2;
+        i += 1;
+    }
+}
+
+// A held bar: how many hits it has and its length, and its hits at the front of the two lists. Or 20; 16; 13 for the sounds, then for the
+// steps, which leave both lists as they were.
+pub fn pad_read(pad: &[u32], id: u32, sounds: &mut [u8], steps: &mut [u32]) -> BarRead
+    ensures { λ r. ⌜ Bar-read-back (was pad) id (was sounds) (was steps) r (left sounds) (left steps) ⌝ }
+{
+    if !is_whole(pad) {
+        return BarRead::Refused(broken_pad());
+    }
+    let Place::Held(at) = place_of(pad, id) else {
+        return BarRead::Refused(unknown_bar());
+    };
+    let len = pad[at + 1];
+    let count = long(pad[at + 2]);
+    if sounds.len() < count {
+        return BarRead::Refused(no_room(1, count));
+    }
+    if steps.len() < count {
+        return BarRead::Refused(no_room(2, count));
+    }
+    fill_hits(pad, at + 3, count, sounds, steps);
+    BarRead::Bar(count, len)
+}

@@ -1,0 +1,103 @@
+-- Each refusal in its place.
+-- Assumes nothing.
+use mathlib.Core.Path.{sym, ap, _∙_}
+use borrow.Author.Tests.{not-true, not-false}
+use borrow.Author.Needs.{needs}
+use native.Mathlib.Omega.{arith}
+use Rattle.segment.specs.Steps.{checked}
+use Rattle.pad_rules.proofs.Listing.{many-sounds, many-steps, uneven, sound-high, order-wrong, step-past, all-passed}
+use Rattle.pad_rules.proofs.lists.check_hits_of.Statement.{statement}
+use Rattle.pad_rules.proofs.lists.check_hits_of.Tie as tie
+
+too-large-requires : tie.Need-too-large-requires
+too-large-requires c κs = search needs
+
+returns : tie.Need-returns
+returns c = rw (c .too-large .ensures) (sym (ap checked (many-sounds _ _ _ (c .before .if1 .taken))))
+
+too-large-requires-2 : tie.Need-too-large-requires-2
+too-large-requires-2 c κs = search needs
+
+returns-2 : tie.Need-returns-2
+returns-2 c = rw (c .too-large2 .ensures) (sym (ap checked (many-steps _ _ _ (c .before .before .if1 .left) (c .before .if2 .taken))))
+
+list-shape-requires : tie.Need-list-shape-requires
+list-shape-requires c κs = search needs
+
+returns-3 : tie.Need-returns-3
+returns-3 c =
+    let t = c .before .before in
+    rw (c .list-shape .ensures) (sym (ap checked (uneven _ _ _ (t .before .if1 .left) (t .if2 .left) (c .before .if3 .taken))))
+
+is-up-to-requires : tie.Need-is-up-to-requires
+is-up-to-requires c κs = search needs
+
+too-large-requires-3 : tie.Need-too-large-requires-3
+too-large-requires-3 c κs = search needs
+
+returns-4 : tie.Need-returns-4
+returns-4 c =
+    let t = c .before .before .before in
+    rw (c .too-large3 .ensures) (sym (ap checked (sound-high _ _ _ (t .before .before .if1 .left) (t .before .if2 .left) (t .if3 .left)
+    (sym (not-true _ (c .before .if4 .taken)) ∙ c .before .before .is-up-to .ensures))))
+
+is-rising-requires : tie.Need-is-rising-requires
+is-rising-requires c κs = search needs
+
+invalid-layout-requires : tie.Need-invalid-layout-requires
+invalid-layout-requires c κs = search needs
+
+returns-5 : tie.Need-returns-5
+returns-5 c =
+    let u = c .before .before .before in
+    let t = u .before .before in
+    rw (c .invalid-layout .ensures) (sym (ap checked (order-wrong _ _ _ (t .before .before .if1 .left) (t .before .if2 .left) (t .if3 .left)
+    (sym (not-false _ (u .if4 .left)) ∙ u .before .is-up-to .ensures)
+    (sym (not-true _ (c .before .if5 .taken)) ∙ c .before .before .is-rising .ensures))))
+
+is-below-requires : tie.Need-is-below-requires
+is-below-requires c κs = search needs
+
+invalid-layout-requires-2 : tie.Need-invalid-layout-requires-2
+invalid-layout-requires-2 c κs = search needs
+
+returns-6 : tie.Need-returns-6
+returns-6 c =
+    let v = c .before .before .before in
+    let u = v .before .before in
+    let t = u .before .before in
+    rw (c .invalid-layout2 .ensures) (sym (ap checked (step-past _ _ _ (t .before .before .if1 .left) (t .before .if2 .left) (t .if3 .left)
+    (sym (not-false _ (u .if4 .left)) ∙ u .before .is-up-to .ensures)
+    (sym (not-false _ (v .if5 .left)) ∙ v .before .is-rising .ensures)
+    (sym (not-true _ (c .before .if6 .taken)) ∙ c .before .before .is-below .ensures))))
+
+returns-7 : tie.Need-returns-7
+returns-7 c =
+    let v = c .before .before in
+    let u = v .before .before in
+    let t = u .before .before in
+    sym (ap checked (all-passed _ _ _ (t .before .before .if1 .left) (t .before .if2 .left) (t .if3 .left)
+    (sym (not-false _ (u .if4 .left)) ∙ u .before .is-up-to .ensures)
+    (sym (not-false _ (v .if5 .left)) ∙ v .before .is-rising .ensures)
+    (sym (not-false _ (c .if6 .left)) ∙ c .before .is-below .ensures)))
+
+pub check-hits-of-spec : {M : Type 1} → statement M
+check-hits-of-spec =
+    tie.close
+    (tie.spec
+    too-large-requires
+    returns
+    too-large-requires-2
+    returns-2
+    list-shape-requires
+    returns-3
+    is-up-to-requires
+    too-large-requires-3
+    returns-4
+    is-rising-requires
+    invalid-layout-requires
+    returns-5
+    is-below-requires
+    invalid-layout-requires-2
+    returns-6
+    returns-7)
