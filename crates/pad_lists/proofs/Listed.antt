@@ -90,7 +90,7 @@ module _ {sound : ℕ} {bars : List Bar} {ids counts positions : List ℕ} where
     positions-more =
         let qs = steps-of sound (b .hits) in
         let e : length (take filled positions ++ qs) ≡ filled + length qs =
-            length-append (take filled positions) qs ∙ ap (λ (k : ℕ). k + length qs) (length-take-le filled positions (omega (arith, short))) in
+        length-append (take filled positions) qs ∙ ap (λ (k : ℕ). k + length qs) (length-take-le filled positions (omega (arith, short))) in
         ap₂ take (st .past) (st .left ∙ sets-eq qs positions filled short)
         ∙ take-at (take filled positions ++ qs) (drop (filled + length qs) positions) (filled + length qs) e
 
@@ -114,10 +114,14 @@ module _ {sound : ℕ} {bars : List Bar} {ids counts positions : List ℕ} where
           room = omega (arith, l .room, st .past, steps-few sound (b .hits));
           enough = rw k (omega (arith, total-more (take n counts) (length qs), l .enough, st .past));
           postings =
-              rw (a, k, positions-more,
-              postings-more (take n ids) (take n counts) (take filled positions) (b .id) qs (ids-short ∙ sym counts-short)
-              (l .enough ∙ sym positions-short),
-              append-snoc)
+              rw (
+                a,
+                k,
+                positions-more,
+                postings-more (take n ids) (take n counts) (take filled positions) (b .id) qs (ids-short ∙ sym counts-short)
+                    (l .enough ∙ sym positions-short),
+                append-snoc,
+              )
               (rw (postings-here sound b rest h) at (l .postings));
         }
 

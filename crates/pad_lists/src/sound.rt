@@ -75,7 +75,14 @@ pub fn gather_sound(
     while i < bars {
         let hits = long(pad[at + 2]);
         let done = long(cursors[i]);
-        let next = gather_run(pad, at + 3 + 2 * done, hits - done, sound, positions, filled);
+        let next = gather_run(
+            pad,
+            at + 3 + 2 * done,
+            hits - done,
+            sound,
+            positions,
+            filled,
+        );
         let count = next - filled;
         posting_ids[postings] = pad[at];
         counts[postings] = count as u32;

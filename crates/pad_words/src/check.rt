@@ -69,7 +69,8 @@ fn id_rises(first: bool, id_before: u32, id: u32) -> bool
     id_before < id
 }
 
-// Whether the words are a pad, whatever their number and values. Counts are taken off what remains of word 1 and never added up, so that no sum wraps and no hit is read beyond the pad's places.
+// Whether the words are a pad, whatever their number and values. Counts are taken off what remains of word 1 and never added up, so that no
+// sum wraps and no hit is read beyond the pad's places.
 pub fn is_whole(pad: &[u32]) -> bool
     ensures { λ r. ⌜ r ≡ whole (was pad) ⌝ }
 {

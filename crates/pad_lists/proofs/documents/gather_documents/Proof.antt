@@ -25,7 +25,7 @@ abbrev μ-loop : tie.MeasureT-loop
 
 -- src/documents.rt:11:21
 shared-slice-read-long : tie.Need-shared-slice-read-long Inv-loop μ-loop
-shared-slice-read-long c = 
+shared-slice-read-long c =
     let s = c .before .before in
     omega (arith, whole-parts (now (s .args .pad)) (s .pre .whole-pad) .words)
 
@@ -119,7 +119,7 @@ loop-less c = search needs
 
 -- src/documents.rt:14:5
 loop-again : tie.Need-loop-again Inv-loop μ-loop
-loop-again c = 
+loop-again c =
     let l = c .before .before .before .before in
     columns-next (l .before .loop .inv) (omega (arith, l .before .before .long .ensures)) _ (c .long2 .ensures)
 

@@ -36,7 +36,7 @@ loop-holds c =
       omega arith,
       omega arith,
       to-start (run-start (a .sound) (now (a .pad)) (a .from) (a .remaining))
-      (omega (arith, leading-few (a .sound) hits, hits-many (a .remaining) (drop (a .from) (now (a .pad))))),
+          (omega (arith, leading-few (a .sound) hits, hits-many (a .remaining) (drop (a .from) (now (a .pad))))),
     )
 
 -- src/sound.rt:35:12
@@ -97,7 +97,7 @@ loop-again c =
       omega arith,
       omega arith,
       next-stored (l .loop .inv .3)
-      (run-next _ (now (l .before .args .pad)) _ _ _ (c .before .before .before .loop-test .taken) (c .before .if1 .left)),
+          (run-next _ (now (l .before .args .pad)) _ _ _ (c .before .before .before .loop-test .taken) (c .before .if1 .left)),
     )
 
 -- src/sound.rt:20:1
