@@ -4,10 +4,10 @@ use mathlib.Core.Path.{_≡_, refl, sym, ap, _∙_}
 use mathlib.Core.List.{List, [], _∷_, map}
 use Prim.Native.Nat.{ℕ, zero, suc, _+_, _≤_, _<_}
 use native.Mathlib.Omega.{arith}
-use lib.ListN.{length, drop, getD, set, length-drop}
+use lib.ListN.{length, drop, getD, set, replicate, length-drop}
 use lib.Seq.{getD-set-other}
 use Rattle.common.proofs.One-more.{each-set}
-use Rattle.pad_map.specs.Bars.{Hit, Bar}
+use Rattle.pad_map.specs.Bars.{Bar}
 use Rattle.pad_lists.specs.Steps.{lower, Cursors}
 use Rattle.pad_lists.proofs.Runs.{lower-none}
 
@@ -21,6 +21,15 @@ cursors-begin bars cs zeros = record { each = λ i h. zeros i ∙ sym (none bars
     none (b ∷ bs) zero = lower-none (b .hits)
     none (b ∷ bs) (suc i) = none bs i
 
+-- an array of zeros
+pub cursors-zeros : (bars : List Bar) (n : ℕ) → Cursors 0 bars (replicate n 0)
+cursors-zeros bars n = cursors-begin bars (replicate n 0) (zeros n)
+  where
+    zeros : (n i : ℕ) → _≡_ {A = ℕ} (getD (replicate n 0) i 0) 0
+    zeros zero i = refl
+    zeros (suc n) zero = refl
+    zeros (suc n) (suc i) = zeros n i
+
 -- ---- while the bars before i are done
 
 abbrev lowers : (sound : ℕ) → List Bar → List ℕ
@@ -33,12 +42,9 @@ pub record Cursors-at (sound : ℕ) (bars : List Bar) (i : ℕ) (cs : List ℕ) 
 pub at-start : {sound : ℕ} {bars : List Bar} {cs : List ℕ} → Cursors sound bars cs → Cursors-at sound bars 0 cs
 at-start c = record { done = λ j l h. absurd (omega arith); ahead = λ j l h. c .each j h }
 
-nil-cons : {A B : Type 0} {x : A} {xs : List A} → [] ≡ x ∷ xs → B
-nil-cons e = let z : _≡_ {A = ℕ} 0 1 = cc in absurd (omega arith)
-
 at-bar : (s : ℕ) (bars : List Bar) (i : ℕ) {b : Bar} {bs : List Bar} → drop i bars ≡ b ∷ bs → getD (lowers s bars) i 0 ≡ lower s (b .hits)
-at-bar s [] zero e = nil-cons e
-at-bar s [] (suc i) e = nil-cons e
+at-bar s [] zero e = absurd (omega (arith, ap length e))
+at-bar s [] (suc i) e = absurd (omega (arith, ap length e))
 at-bar s (c ∷ cs) zero {b} e = let w : c ≡ b = cc in ap (λ (x : Bar). lower s (x .hits)) w
 at-bar s (c ∷ cs) (suc i) e = at-bar s cs i e
 

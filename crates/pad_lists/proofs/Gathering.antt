@@ -1,22 +1,21 @@
 -- The pass over the bars of a pad for one sound: a turn, and the end.
 -- Assumes nothing.
-use mathlib.Core.Path.{_≡_, sym, ap, _∙_}
+use mathlib.Core.Path.{_≡_, ap, _∙_}
 use mathlib.Core.Bool.{cond}
-use mathlib.Core.List.{List, [], _∷_}
-use Prim.Native.Nat.{ℕ, suc, _+_, _-_, _*_, _≤_, _<_}
+use mathlib.Core.List.{List, _∷_}
+use Prim.Native.Nat.{ℕ, _+_, _-_, _*_, _≤_, _<_}
 use native.Mathlib.Omega.{arith}
 use lib.Dec.{ltb}
 use lib.ListN.{length, drop, getD, set, length-set}
 use Rattle.common.specs.Stores.{Stored}
-use Rattle.pad_map.specs.Bars.{Bar, hits-in-all}
 use Rattle.pad_map.specs.Acts.{steps-of}
-use Rattle.pad_words.specs.Words.{hits-of, held}
+use Rattle.pad_words.specs.Words.{pad-words, hits-of, held}
 use Rattle.pad_words.proofs.Steps.{hits-many, bar-at}
 use Rattle.pad_words.proofs.Wholes.{held-many}
 use Rattle.pad_lists.specs.declared.sound.Gathered.{Gathered}
-use Rattle.pad_lists.specs.Steps.{lower, leading, Places, Sound-fits, Sound-gathered}
+use Rattle.pad_lists.specs.Steps.{lower, leading, Sound-fits, Sound-gathered}
 use Rattle.pad_lists.proofs.Runs.{lower-few, lower-next, run-all, drop-hits}
-use Rattle.pad_lists.proofs.Walks.{Walk, walk-start, hits-few, bar-here, walk-room, walk-next, here-fine, walk-end}
+use Rattle.pad_lists.proofs.Walks.{Walk, walk-start, hits-few, bar-here, walk-room, walk-next, here-rising, walk-end}
 use Rattle.pad_lists.proofs.Cursors.{Cursors-at, at-start, cursor-here, cursor-next, at-end}
 use Rattle.pad_lists.proofs.Listed.{Listed, listed-start, listed-next, listed-all, listed-count}
 
@@ -29,8 +28,8 @@ pub record Gathering (pad : List ℕ) (sound at i n filled : ℕ) (cs ids counts
 
 -- what a turn's sums and places lean on
 pub record Turn (pad : List ℕ) (at i n filled done : ℕ) : Type 0 where
-  pub words : length pad ≡ 17154
-  pub inside : at + (3 + 2 * getD pad (at + 2) 0) ≤ 17154
+  pub words : length pad ≡ pad-words
+  pub inside : at + (3 + 2 * getD pad (at + 2) 0) ≤ pad-words
   pub bar : i < 256
   pub cursor : done ≤ getD pad (at + 2) 0
   pub posting : n < 256
@@ -82,14 +81,14 @@ module _ {pad : List ℕ} {sound at i n filled : ℕ} {cs ids counts positions :
           let t = turn in
           rw a
           (ap (leading sound) (drop-hits done (getD pad (at + 2) 0) (at + 3) pad (omega (arith, t .cursor)))
-          ∙ rw (b ∙ past-lower) (run-all (getD pad (at + 1) 0) sound _ (bar-at pad at .hits) (here-fine (g .walk) h)))
+          ∙ rw (b ∙ past-lower) (run-all sound (bar-at pad at .hits) (here-rising (g .walk) h)))
 
       stored : Stored (steps-of sound (bar-at pad at .hits)) filled positions next positions′
       stored = rw run-is at s
 
       pub gathering-next : {count n′ : ℕ} → count ≡ next - filled → n′ ≡ cond (ltb 0 count) (n + 1) n
-          → Gathering pad sound (at + (3 + 2 * hits)) (i + 1) n′ next (set cs i (done + count)) (set ids n (getD pad at 0)) (set counts n count)
-          positions′
+          → Gathering pad sound (at + (3 + 2 * hits)) (i + 1) n′ next
+          (set cs i (done + count)) (set ids n (getD pad at 0)) (set counts n count) positions′
       gathering-next {count} c e =
           let t = turn in
           let k : count ≡ length (steps-of sound (bar-at pad at .hits)) = omega (arith, stored .past) in

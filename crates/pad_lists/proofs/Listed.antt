@@ -1,15 +1,16 @@
 -- The postings of a sound, a bar at a time: those that stand in the lists, then those of the bars left, are all.
 -- Assumes nothing.
 use mathlib.Core.Path.{_≡_, refl, sym, ap, ap₂, _∙_}
-use mathlib.Core.Bool.{Bool, true, false, cond}
-use mathlib.Core.List.{List, [], _∷_, _++_, append-assoc, append-nil}
+use mathlib.Core.Bool.{cond}
+use mathlib.Core.List.{List, [], _∷_, _++_, append-nil}
 use mathlib.Core.Logic.{_⊎_, inl, inr}
-use Prim.Native.Nat.{ℕ, zero, suc, _+_, _≤_, _<_}
+use Prim.Native.Nat.{ℕ, _+_, _≤_, _<_}
 use native.Mathlib.Numerals.{add-one}
 use native.Mathlib.Omega.{arith}
 use lib.Dec.{ltb}
 use lib.ListN.{length, take, drop, set, length-append, length-drop, length-set}
-use lib.Seq.{sets, sets-eq, length-sets, length-take-le, take-all, take-at, take-append-le, drop-append-le, take-set-le, take-suc-set, append-snoc}
+use lib.Seq.{length-take-le, take-all, take-at, take-append-le, drop-append-le, append-snoc}
+use lib.Seq.{take-set-le, take-suc-set, sets-eq, length-sets}
 use borrow.Author.Tests.{lt-ltb, le-ltb}
 use Rattle.common.proofs.Loops.{lt-or-ge}
 use Rattle.common.proofs.Pairs.{paired-count}
@@ -19,7 +20,7 @@ use Rattle.common.specs.Stores.{Stored}
 use Rattle.segment.specs.Records.{Posting}
 use Rattle.calls.specs.Given.{posting, postings-in}
 use Rattle.calls.proofs.Parts.{parts-count}
-use Rattle.pad_map.specs.Bars.{Hit, Bar, hits-in-all}
+use Rattle.pad_map.specs.Bars.{Bar, hits-in-all}
 use Rattle.pad_map.specs.Acts.{steps-of, postings-of}
 use Rattle.pad_lists.proofs.Runs.{steps-few}
 
@@ -43,10 +44,6 @@ postings-more (x ∷ ids) (c ∷ cs) ps id qs e t =
 
 take-more : (xs : List ℕ) (n v : ℕ) → n < length xs → take (n + 1) (set xs n v) ≡ take n xs ++ (v ∷ [])
 take-more xs n v h = rw (add-one n) (take-suc-set xs n v h)
-
-no-element : (xs : List ℕ) → length xs ≡ 0 → xs ≡ []
-no-element [] e = refl
-no-element (x ∷ xs) e = absurd (omega arith)
 
 module _ (s : ℕ) (b : Bar) (bs : List Bar) where
   postings-here : 0 < length (steps-of s (b .hits)) → postings-of s (b ∷ bs) ≡ posting (b .id) (steps-of s (b .hits)) ∷ postings-of s bs
@@ -129,6 +126,7 @@ module _ {sound : ℕ} {bars : List Bar} {ids counts positions : List ℕ} where
         → Listed sound bars rest n next (set ids n (b .id)) (set counts n (length (steps-of sound (b .hits)))) positions′
     listed-past z =
         let qs = steps-of sound (b .hits) in
+        let none : [] ≡ qs = take-all 0 qs (omega arith) in
         let a = take-set-le n ids n (b .id) (omega arith) in
         let k = take-set-le n counts n (length qs) (omega arith) in
         record {
@@ -138,7 +136,7 @@ module _ {sound : ℕ} {bars : List Bar} {ids counts positions : List ℕ} where
           few = omega (arith, l .few);
           room = omega (arith, l .room, st .past, steps-few sound (b .hits));
           enough = rw k (omega (arith, l .enough, st .past));
-          postings = rw (a, k, positions-more, no-element qs z, append-nil) (rw (postings-past sound b rest z) at (l .postings));
+          postings = rw (a, k, positions-more, ← none, append-nil) (rw (postings-past sound b rest z) at (l .postings));
         }
 
     -- a bar's postings are one or none

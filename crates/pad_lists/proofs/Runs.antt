@@ -1,24 +1,22 @@
 -- The hits of one sound in a bar: hits rise by sound, so behind those of lower sounds they come first.
 -- Assumes nothing.
 use mathlib.Core.Path.{_≡_, refl, sym, ap, _∙_}
-use mathlib.Core.Bool.{Bool, true, false, cond, _&&_, _||_}
-use mathlib.Core.List.{List, [], _∷_, map}
-use mathlib.Core.Option.{Option, some}
-use mathlib.Core.Logic.{_⊎_, inl, inr, ⊎-elim}
+use mathlib.Core.Bool.{Bool, true, false, cond}
+use mathlib.Core.List.{List, [], _∷_}
+use mathlib.Core.Logic.{_⊎_, inl, inr}
 use Prim.Native.Nat.{ℕ, zero, suc, _+_, _-_, _*_, _≤_, _<_}
 use native.Mathlib.Omega.{arith}
-use lib.Dec.{ltb, leb, eqb}
+use lib.Dec.{ltb, eqb}
 use lib.ListN.{length, drop, getD, length-map}
 use lib.Seq.{drop-drop}
-use borrow.Author.Tests.{ltb-true, ltb-false, eqb-true, eqb-false, lt-ltb, le-ltb, eq-eqb, ne-eqb}
-use Rattle.common.proofs.Loops.{lt-or-ge, and-left, and-right}
+use borrow.Author.Tests.{lt-ltb, le-ltb, eq-eqb, ne-eqb}
+use Rattle.common.proofs.Loops.{lt-or-ge}
 use Rattle.common.proofs.Kept.{kept-fewer}
-use Rattle.common.proofs.Membership.{or-cases}
 use Rattle.common.proofs.One-more.{equal-or-not}
 use Rattle.common.specs.Members.{kept}
 use Rattle.common.specs.Stores.{Stored}
 use Rattle.pad_map.specs.Bars.{Hit, hit}
-use Rattle.pad_map.specs.Rules.{before, comes-after, hit-fine, hits-fine}
+use Rattle.pad_map.specs.Rules.{Comes-before, Hits-rising}
 use Rattle.pad_map.specs.Acts.{of-sound, steps-of}
 use Rattle.pad_words.specs.Words.{hits-of}
 use Rattle.pad_words.proofs.Steps.{hits-many, hits-step, hits-end}
@@ -87,62 +85,49 @@ unfolding lower kept
 lower-none [] = refl
 lower-none (h ∷ hs) = lower-same 0 h hs (omega arith) ∙ lower-none hs
 
--- ---- hits that are fine rise by sound
+-- ---- hits that rise
 
-before-up : (a b : Hit) → before a b ≡ true → a .sound ≤ b .sound
-unfolding before
-before-up a b e = ⊎-elim
-    (λ l. omega (arith, ltb-true (a .sound) (b .sound) l))
-    (λ l. omega (arith, eqb-true (a .sound) (b .sound) (and-left (eqb (a .sound) (b .sound)) _ l)))
-    (or-cases (ltb (a .sound) (b .sound)) _ e)
+sound-up : (a b : Hit) → Comes-before a b → a .sound ≤ b .sound
+sound-up a b (inl l) = omega arith
+sound-up a b (inr e) = omega (arith, e .0)
 
-module _ (len : ℕ) where
-  pub fine-rest : (previous : Option Hit) (h : Hit) (hs : List Hit) → hits-fine len previous (h ∷ hs) ≡ true → hits-fine len (some h) hs ≡ true
-  unfolding hits-fine
-  fine-rest previous h hs e = and-right (hit-fine len previous h) _ e
+rising-rest : (h : Hit) (hs : List Hit) → Hits-rising (h ∷ hs) → Hits-rising hs
+rising-rest h [] r = tt
+rising-rest h (k ∷ hs) (up, r) = r
 
-  fine-up : (p h : Hit) (hs : List Hit) → hits-fine len (some p) (h ∷ hs) ≡ true → p .sound ≤ h .sound
-  unfolding hits-fine hit-fine
-  fine-up p h hs e =
-      before-up p h (and-left (before p h) _ (and-right (leb (h .sound) 127) _ (and-left (hit-fine len (some p) h) _ e)))
+module _ (s : ℕ) where
+  -- behind a hit that is not lower, none is
+  none-lower : (p : Hit) (hits : List Hit) → Hits-rising (p ∷ hits) → s ≤ p .sound → lower s hits ≡ 0
+  unfolding lower kept
+  none-lower p [] r l = refl
+  none-lower p (h ∷ hs) (up, r) l =
+      let k = sound-up p h up in
+      lower-same s h hs (omega arith) ∙ none-lower h hs r (omega arith)
 
-  module _ (s : ℕ) where
-    -- behind a hit that is not lower, none is
-    none-lower : (p : Hit) (hits : List Hit) → hits-fine len (some p) hits ≡ true → s ≤ p .sound → lower s hits ≡ 0
-    unfolding lower kept
-    none-lower p [] e l = refl
-    none-lower p (h ∷ hs) e l =
-        let up = fine-up p h hs e in
-        lower-same s h hs (omega arith) ∙ none-lower h hs (fine-rest (some p) h hs e) (omega arith)
+  -- behind a higher one, none is of the sound
+  none-of : (p : Hit) (hits : List Hit) → Hits-rising (p ∷ hits) → s < p .sound → steps-of s hits ≡ []
+  unfolding steps-of kept
+  none-of p [] r l = refl
+  none-of p (h ∷ hs) (up, r) l =
+      let k = sound-up p h up in
+      steps-past s h hs (λ x. omega arith) ∙ none-of h hs r (omega arith)
 
-    -- behind a higher one, none is of the sound
-    none-of : (p : Hit) (hits : List Hit) → hits-fine len (some p) hits ≡ true → s < p .sound → steps-of s hits ≡ []
-    unfolding steps-of kept
-    none-of p [] e l = refl
-    none-of p (h ∷ hs) e l =
-        let up = fine-up p h hs e in
-        steps-past s h hs (λ x. omega arith) ∙ none-of h hs (fine-rest (some p) h hs e) (omega arith)
-
-    -- past the lower ones: all of the sound, in their order
-    pub run-all : (previous : Option Hit) (hits : List Hit) → hits-fine len previous hits ≡ true
-        → leading s (drop (lower s hits) hits) ≡ steps-of s hits
-    unfolding lower leading steps-of kept
-    run-all previous [] e = refl
-    run-all previous (h ∷ hs) e = go (lt-or-ge (h .sound) s) (equal-or-not (h .sound) s) (run-all (some h) hs later)
-      where
-        later : hits-fine len (some h) hs ≡ true
-        later = fine-rest previous h hs e
-
-        go : (h .sound < s) ⊎ (s ≤ h .sound) → (h .sound ≡ s) ⊎ (h .sound ≡ s → ⊥) → leading s (drop (lower s hs) hs) ≡ steps-of s hs
-            → leading s (drop (lower s (h ∷ hs)) (h ∷ hs)) ≡ steps-of s (h ∷ hs)
-        go (inl l) x r = rw (lower-past s h hs l, steps-past s h hs (λ y. omega arith)) r
-        go (inr l) (inl x) r =
-            let z : lower s hs ≡ 0 = none-lower h hs later l in
-            let here : lower s (h ∷ hs) ≡ 0 = lower-same s h hs l ∙ z in
-            rw (here, steps-here s h hs x, leading-here s h hs x) (ap (λ (ts : List ℕ). h .step ∷ ts) (rw z at r))
-        go (inr l) (inr n) r =
-            let here : lower s (h ∷ hs) ≡ 0 = lower-same s h hs l ∙ none-lower h hs later l in
-            rw (here, leading-none s h hs n, steps-past s h hs n) (sym (none-of h hs later (omega arith)))
+  -- past the lower ones: all of the sound, in their order
+  pub run-all : (hits : List Hit) → Hits-rising hits → leading s (drop (lower s hits) hits) ≡ steps-of s hits
+  unfolding lower leading steps-of kept
+  run-all [] r = refl
+  run-all (h ∷ hs) r = go (lt-or-ge (h .sound) s) (equal-or-not (h .sound) s) (run-all hs (rising-rest h hs r))
+    where
+      go : (h .sound < s) ⊎ (s ≤ h .sound) → (h .sound ≡ s) ⊎ (h .sound ≡ s → ⊥) → leading s (drop (lower s hs) hs) ≡ steps-of s hs
+          → leading s (drop (lower s (h ∷ hs)) (h ∷ hs)) ≡ steps-of s (h ∷ hs)
+      go (inl l) x later = rw (lower-past s h hs l, steps-past s h hs (λ y. omega arith)) later
+      go (inr l) (inl x) later =
+          let z : lower s hs ≡ 0 = none-lower h hs r l in
+          let here : lower s (h ∷ hs) ≡ 0 = lower-same s h hs l ∙ z in
+          rw (here, steps-here s h hs x, leading-here s h hs x) (ap (λ (ts : List ℕ). h .step ∷ ts) (rw z at later))
+      go (inr l) (inr n) later =
+          let here : lower s (h ∷ hs) ≡ 0 = lower-same s h hs l ∙ none-lower h hs r l in
+          rw (here, leading-none s h hs n, steps-past s h hs n) (sym (none-of h hs r (omega arith)))
 
 -- ---- in the words of a pad
 

@@ -9,23 +9,21 @@ use native.Mathlib.Omega.{arith}
 use lib.ListN.{length, drop, getD}
 use lib.Seq.{drop-drop}
 use Rattle.pad_map.specs.Bars.{Bar, hits-in-all}
-use Rattle.pad_map.specs.Rules.{hits-fine}
-use Rattle.pad_words.specs.Words.{size, bars-of, held}
+use Rattle.pad_map.specs.Rules.{Hits-rising, hits-fine}
+use Rattle.pad_map.proofs.Ordered.{fine-exactly}
+use Rattle.pad_words.specs.Words.{pad-words, size, bars-of, held}
 use Rattle.pad_words.specs.Whole.{bars-fine, whole}
 use Rattle.pad_words.proofs.Steps.{hits-many, bar-at, bars-step, bars-end}
 use Rattle.pad_words.proofs.Placing.{held-start}
-use Rattle.pad_words.proofs.Wholes.{fine-cons, whole-parts, held-many, total-is, inside}
-
-nil-cons : {A B : Type 0} {x : A} {xs : List A} → [] ≡ x ∷ xs → B
-nil-cons e = let z : _≡_ {A = ℕ} 0 1 = cc in absurd (omega arith)
+use Rattle.pad_words.proofs.Wholes.{fine-cons, whole-parts, total-is, inside}
 
 drop-later : {A : Type 0} (xs : List A) (i : ℕ) {y : A} {ys : List A} → drop i xs ≡ y ∷ ys → drop (i + 1) xs ≡ ys
 drop-later xs i e = sym (drop-drop 1 i xs) ∙ ap (drop 1) e
 
 bar-fine : (previous : Option ℕ) (remaining : ℕ) (bars : List Bar) (i : ℕ) {b : Bar} {bs : List Bar}
     → bars-fine previous remaining bars ≡ true → drop i bars ≡ b ∷ bs → hits-fine (b .len) none (b .hits) ≡ true
-bar-fine previous remaining [] zero f e = nil-cons e
-bar-fine previous remaining [] (suc i) f e = nil-cons e
+bar-fine previous remaining [] zero f e = absurd (omega (arith, ap length e))
+bar-fine previous remaining [] (suc i) f e = absurd (omega (arith, ap length e))
 bar-fine previous remaining (c ∷ cs) zero {b} f e =
     let w : c ≡ b = cc in
     rw w at (fine-cons previous remaining c cs f .fine)
@@ -34,7 +32,7 @@ bar-fine previous remaining (c ∷ cs) (suc i) f e =
 
 -- i bars are passed, the next begins at an offset
 pub record Walk (pad : List ℕ) (i at : ℕ) : Type 0 where
-  pub words : length pad ≡ 17154
+  pub words : length pad ≡ pad-words
   pub bars : getD pad 0 0 ≤ 256
   pub fine : bars-fine none (getD pad 1 0) (held pad) ≡ true
   pub rest : bars-of (getD pad 0 0 - i) (drop at pad) ≡ drop i (held pad)
@@ -66,7 +64,7 @@ module _ {pad : List ℕ} {i at : ℕ} (w : Walk pad i at) where
     size-here : size (drop i (held pad)) ≡ 3 + 2 * getD pad (at + 2) 0 + size (drop (i + 1) (held pad))
     size-here = rw (bar-here, hits-many (getD pad (at + 2) 0) (drop (at + 3) pad))
 
-    pub walk-room : at + (3 + 2 * getD pad (at + 2) 0) ≤ 17154
+    pub walk-room : at + (3 + 2 * getD pad (at + 2) 0) ≤ pad-words
     walk-room = omega (arith, size-here, w .room, w .words)
 
     pub walk-next : (n : ℕ) → n ≡ getD pad (at + 2) 0 → Walk pad (i + 1) (at + (3 + 2 * n))
@@ -78,8 +76,9 @@ module _ {pad : List ℕ} {i at : ℕ} (w : Walk pad i at) where
       room = omega (arith, size-here, w .room);
     })
 
-    pub here-fine : hits-fine (getD pad (at + 1) 0) none (bar-at pad at .hits) ≡ true
-    here-fine = bar-fine none (getD pad 1 0) (held pad) i (w .fine) bar-here
+    pub here-rising : Hits-rising (bar-at pad at .hits)
+    here-rising =
+        fine-exactly (getD pad (at + 1) 0) (bar-at pad at .hits) .0 (bar-fine none (getD pad 1 0) (held pad) i (w .fine) bar-here) .rising
 
   pub walk-end : getD pad 0 0 ≤ i → drop i (held pad) ≡ []
   walk-end l = sym (w .rest) ∙ bars-end pad at (getD pad 0 0) i l

@@ -70,6 +70,7 @@ pub record Sound-gathered (pad : List ℕ) (sound : ℕ) (r : Gathered) (cs′ i
   pub few-positions : r .positions ≤ 8192
   pub count : r .postings ≡ length (postings-of sound (held pad))
   pub enough : total (take (r .postings) counts′) ≡ r .positions
-  pub postings : postings-in (take (r .postings) ids′) (take (r .postings) counts′) (take (r .positions) positions′) ≡ postings-of sound (held pad)
+  pub postings : postings-in (take (r .postings) ids′) (take (r .postings) counts′) (take (r .positions) positions′)
+      ≡ postings-of sound (held pad)
   pub cursors : Cursors (suc sound) (held pad) cs′
   pub places : Places cs′ ids′ counts′ positions′

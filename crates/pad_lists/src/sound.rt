@@ -30,15 +30,15 @@ fn gather_run(
 {
     let mut at = from;
     let mut next = filled;
-    let mut i: usize = 0;
-    while i < remaining {
+    let mut taken: usize = 0;
+    while taken < remaining {
         if pad[at] != sound {
             return next;
         }
         positions[next] = pad[at + 1];
         at += 2;
         next += 1;
-        i += 1;
+        taken += 1;
     }
     next
 }

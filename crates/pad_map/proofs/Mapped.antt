@@ -2,8 +2,8 @@
 -- Assumes nothing.
 use mathlib.Core.Path.{_≡_, refl, sym, ap, _∙_}
 use mathlib.Core.Bool.{Bool, true, false, cond}
-use mathlib.Core.List.{List, [], _∷_, map}
-use mathlib.Core.Option.{Option, none, some}
+use mathlib.Core.List.{List, [], _∷_}
+use mathlib.Core.Option.{none, some}
 use mathlib.Core.Logic.{_⊎_, inl, inr}
 use Prim.Native.Nat.{ℕ, suc, _+_, _≤_, _<_}
 use native.Mathlib.Omega.{arith}
@@ -20,14 +20,10 @@ use Rattle.pad_map.specs.Bars.{Bar, lookup, insert, without, hits-in-all
 use Rattle.pad_map.specs.Claims.{ids, Added, Taken-out, Added-rises, Taken-out-rises}
 use Rattle.pad_map.proofs.Lookups.{lookup-here, lookup-later}
 
-pub some-none : {A B : Type 0} {x : A} → some x ≡ none → B
+some-none : {A B : Type 0} {x : A} → some x ≡ none → B
 some-none e = let w : _≡_ {A = ℕ} 0 1 = cc in absurd (omega arith)
 
 -- ---- a bar at a time
-
-pub lookup-nil : (id : ℕ) → lookup [] id ≡ none
-unfolding lookup
-lookup-nil id = refl
 
 module _ (c : Bar) (cs : List Bar) (id : ℕ) where
   lookup-cons : lookup (c ∷ cs) id ≡ cond (eqb (c .id) id) (some c) (lookup cs id)
@@ -144,15 +140,7 @@ without-fewer id (c ∷ cs) = go (equal-or-not (c .id) id) (without-fewer id cs)
     go (inl y) (m, n) = rw (without-here c cs id y) (omega arith, omega arith)
     go (inr k) (m, n) = rw (without-later c cs id k) (omega arith, omega arith)
 
--- ---- ids rise
-
--- above an id that is below all others nothing has it
-pub absent-below : (bars : List Bar) (id : ℕ) → ((i : ℕ) → i ∈ ids bars → id < i) → lookup bars id ≡ none
-absent-below [] id h = lookup-nil id
-absent-below (c ∷ cs) id h =
-    let up = h (c .id) (inl refl) in
-    lookup-later c cs id (λ e. omega arith) ∙ absent-below cs id (λ i m. h i (inr m))
-
+-- nothing has the id: nothing is taken out
 pub without-absent : (bars : List Bar) (id : ℕ) → lookup bars id ≡ none → without id bars ≡ bars
 unfolding without
 without-absent [] id e = refl
@@ -162,8 +150,11 @@ without-absent (c ∷ cs) id e = go (equal-or-not (c .id) id) (without-absent cs
     go (inl y) r = some-none (sym (lookup-here c cs id y) ∙ e)
     go (inr n) r = without-later c cs id n ∙ ap (λ (l : List Bar). c ∷ l) (r (sym (lookup-later c cs id n) ∙ e))
 
--- every id of bars that were added to or taken from is above p where the old ones are
-insert-above : (b : Bar) (bars : List Bar) (p : ℕ) → p < b .id → ((i : ℕ) → i ∈ ids bars → p < i) → (i : ℕ) → i ∈ ids (insert b bars) → p < i
+-- ---- ids rise
+
+-- where all ids are above p, so are those after a bar was added above p, or taken out
+insert-above : (b : Bar) (bars : List Bar) (p : ℕ) → p < b .id → ((i : ℕ) → i ∈ ids bars → p < i) → (i : ℕ) → i ∈ ids (insert b bars)
+    → p < i
 insert-above b bars p h f i m =
     let (x, k, e) = map-gives (λ b. b .id) (insert b bars) i m in
     go x e (insert-gives b bars x k)

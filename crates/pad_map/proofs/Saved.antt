@@ -1,7 +1,7 @@
--- Saving: its tests of the lists are the rules for hits, and a bar within the rules is saved exactly where its id is free and there is room.
+-- Saving: its tests of the lists are the rules for hits; a bar within the rules is saved exactly where its id is free and there is room.
 -- Assumes nothing.
-use mathlib.Core.Path.{_≡_, refl, sym, ap, _∙_}
-use mathlib.Core.Bool.{Bool, true, false, not, _&&_}
+use mathlib.Core.Path.{_≡_, refl, sym}
+use mathlib.Core.Bool.{true, not, _&&_}
 use mathlib.Core.List.{List, [], _∷_}
 use mathlib.Core.Option.{Option, none, some}
 use Prim.Native.Nat.{ℕ, _+_, _≤_, _<_}
@@ -122,7 +122,7 @@ module _ (bars : List Bar) (id len : ℕ) (ss ts : List ℕ) where
         is = sym (ok-same c);
       }
 
-  pub save-from : Lists-well len ss ts → lookup bars id ≡ none → length bars < 256 → hits-in-all bars + length ss ≤ 8192
+  save-from : Lists-well len ss ts → lookup bars id ≡ none → length bars < 256 → hits-in-all bars + length ss ≤ 8192
       → save bars id len ss ts ≡ ok (insert (bar id len (hits-in ss ts)) bars)
   unfolding save
   save-from w f m h =

@@ -2,9 +2,9 @@
 use Prim.Native.Nat.{ℕ, _+_, _≤_, _<_}
 use mathlib.Core.Path.{_≡_}
 use mathlib.Core.Bool.{true, cond}
-use mathlib.Core.List.{List, [], _∷_, map}
+use mathlib.Core.List.{List, map}
 use mathlib.Core.Logic.{_↔_}
-use mathlib.Core.Option.{Option, none, some}
+use mathlib.Core.Option.{none, some}
 use lib.Dec.{eqb}
 use lib.ListN.{length}
 use Rattle.common.specs.Elements.{Rising}
@@ -30,7 +30,7 @@ pub record Lists-well (len : ℕ) (sounds steps : List ℕ) : Type 0 where
 abbrev pub Check-exactly : Type 0
 Check-exactly = (len : ℕ) (sounds steps : List ℕ) → (check-hits len sounds steps ≡ ok tt) ↔ Lists-well len sounds steps
 
--- ---- the list of bars is a map: a bar that was added is found under its id, one that was taken out is not, and every other id is as before
+-- ---- the list of bars is a map: a bar that was added is found under its id, one that was taken out is not, every other id is as before
 
 abbrev pub Added : Type 0
 Added = (bars : List Bar) (b : Bar) (id : ℕ) → lookup bars (b .id) ≡ none

@@ -1,12 +1,11 @@
 -- The words of a map that fits a pad are a pad again, which holds that map; so are those after a save and after an erasure. What each call
 -- promises, from what its code knows.
 -- Assumes nothing.
-use mathlib.Core.Path.{_≡_, refl, sym, ap, _∙_}
+use mathlib.Core.Path.{_≡_, sym, ap, _∙_}
 use mathlib.Core.Bool.{true}
-use mathlib.Core.List.{List, [], _∷_}
+use mathlib.Core.List.{List}
 use mathlib.Core.Logic.{_⊎_, inl, inr}
-use mathlib.Core.Option.{none}
-use Prim.Native.Nat.{ℕ, suc, _+_, _≤_, _<_}
+use Prim.Native.Nat.{ℕ, _+_, _≤_}
 use native.Mathlib.Omega.{arith}
 use lib.ListN.{length, drop, getD}
 use Rattle.common.specs.Elements.{_∈_, Rising}
@@ -14,14 +13,14 @@ use Rattle.common.proofs.Pairs.{paired-count}
 use Rattle.segment.specs.declared.refusal.Refusal.{Refusal}
 use Rattle.segment.specs.declared.replies.Counted.the-variants as counted
 use Rattle.segment.specs.Results.{ok, refuse}
-use Rattle.segment.proofs.Binds.{refuse-ok, ok-same}
-use Rattle.pad_map.specs.Bars.{Bar, hit, bar, hits-in, insert, without, hits-in-all}
+use Rattle.segment.proofs.Binds.{refuse-ok}
+use Rattle.pad_map.specs.Bars.{Bar, hit, bar, hits-in, without, hits-in-all}
 use Rattle.pad_map.specs.Rules.{Hits-fine}
 use Rattle.pad_map.specs.Acts.{save}
 use Rattle.pad_map.specs.Claims.{ids}
 use Rattle.pad_map.proofs.Mapped.{insert-gives, without-gives, insert-counts, without-fewer, added-rises, taken-out-rises}
 use Rattle.pad_map.proofs.Saved.{save-gives}
-use Rattle.pad_words.specs.Words.{pad-words, size, stored, held}
+use Rattle.pad_words.specs.Words.{pad-words, stored, held}
 use Rattle.pad_words.specs.Whole.{Whole, whole}
 use Rattle.pad_words.specs.Calls.{held-bars, pad-save, pad-erase}
 use Rattle.pad_words.proofs.Steps.{hits-many, bar-at}

@@ -158,7 +158,8 @@ module _ (pad : List ℕ) (id len : ℕ) (ss ts : List ℕ) where
             let cs = counts in
             let sh = size-held pad w in
             let kb : 3 + 2 * length ss ≡ length B = omega (arith, lb, many) in
-            let a : getD pad 0 0 + 1 ≡ length (s .before ++ (b ∷ s .behind)) = omega (arith, cs, length-append (s .before) (b ∷ s .behind)) in
+            let a : getD pad 0 0 + 1 ≡ length (s .before ++ (b ∷ s .behind)) =
+            omega (arith, cs, length-append (s .before) (b ∷ s .behind)) in
             let d : getD pad 1 0 + length ss ≡ hits-in-all (s .before ++ (b ∷ s .behind)) =
             omega (arith, cs, many, hits-join (s .before) (b ∷ s .behind)) in
             let z : p + (3 + 2 * length ss) + length Y ≡ 2 + size (s .before ++ (b ∷ s .behind)) =

@@ -3,7 +3,7 @@
 use mathlib.Core.Path.{_≡_, refl, sym, ap, _∙_}
 use mathlib.Core.Bool.{true}
 use mathlib.Core.List.{List, [], _∷_, _++_}
-use mathlib.Core.Option.{Option, none, some}
+use mathlib.Core.Option.{Option, some}
 use mathlib.Core.Logic.{_⊎_, inl, inr}
 use Prim.Native.Nat.{ℕ, _+_, _-_, _*_, _≤_, _<_}
 use native.Mathlib.Omega.{arith}
@@ -18,10 +18,7 @@ use Rattle.pad_words.specs.Words.{size}
 use Rattle.pad_words.specs.Whole.{bars-fine}
 use Rattle.pad_words.specs.Steps.{place-from}
 use Rattle.pad_words.proofs.Wholes.{fine-cons}
-use Rattle.pad_words.proofs.Found.{place-past, place-at, place-before, none-below}
-
-held-free : {A : Type 0} {p q : ℕ} → Held p ≡ Free q → A
-held-free e = let w : _≡_ {A = ℕ} 0 1 = cc in absurd (omega arith)
+use Rattle.pad_words.proofs.Found.{held-free, place-past, place-at, place-before, none-below}
 
 place-nil : (at id : ℕ) → place-from at [] id ≡ Free at
 unfolding place-from
@@ -38,8 +35,8 @@ pub record Held-split (at : ℕ) (bars : List Bar) (id p : ℕ) : Type 0 where
   pub rest : without id bars ≡ before ++ behind
   pub look : lookup bars id ≡ some one
 
-pub held-split : (at : ℕ) (previous : Option ℕ) (remaining : ℕ) (bars : List Bar) (id : ℕ) {p : ℕ} → bars-fine previous remaining bars ≡ true
-    → place-from at bars id ≡ Held p → Held-split at bars id p
+pub held-split : (at : ℕ) (previous : Option ℕ) (remaining : ℕ) (bars : List Bar) (id : ℕ) {p : ℕ}
+    → bars-fine previous remaining bars ≡ true → place-from at bars id ≡ Held p → Held-split at bars id p
 held-split at previous remaining [] id f q = held-free (sym q ∙ place-nil at id)
 held-split at previous remaining (c ∷ cs) id {p} f q =
     go (lt-or-ge (c .id) id) (equal-or-not (c .id) id)

@@ -14,14 +14,12 @@ use Rattle.common.proofs.Elements.{each}
 use Rattle.segment.proofs.After.{After, after-none, after-cons, after-head, after-tail}
 use Rattle.pad_map.specs.Bars.{Bar, hits-in-all}
 use Rattle.pad_map.specs.Rules.{Hits-fine}
+use Rattle.pad_map.specs.Claims.{ids}
 use Rattle.pad_map.proofs.Ordered.{fine-exactly}
 use Rattle.pad_words.specs.Words.{pad-words, bars-of, held}
 use Rattle.pad_words.specs.Whole.{Whole, bars-fine, whole}
 use Rattle.pad_words.specs.Claims.{Whole-exactly, Empty, Zeros-empty}
 use Rattle.pad_words.proofs.Wholes.{fine-cons, fine-make, whole-parts, total-is}
-
-abbrev pub ids : List Bar → List ℕ
-ids bars = map (λ b. b .id) bars
 
 abbrev pub Each-fine : List Bar → Type 0
 Each-fine bars = (b : Bar) → b ∈ bars → Hits-fine (b .len) (b .hits)

@@ -21,7 +21,7 @@ use Rattle.pad_words.specs.Steps.{place-from}
 use Rattle.pad_words.proofs.Steps.{hits-many, bar-at, bars-cons}
 use Rattle.pad_words.proofs.Wholes.{fine-cons, whole-parts, inside}
 
-held-free : {A : Type 0} {p q : ℕ} → Held p ≡ Free q → A
+pub held-free : {A : Type 0} {p q : ℕ} → Held p ≡ Free q → A
 held-free e = let w : _≡_ {A = ℕ} 0 1 = cc in absurd (omega arith)
 
 none-some : {A B : Type 0} {x : A} → none ≡ some x → B

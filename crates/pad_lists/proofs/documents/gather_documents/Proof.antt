@@ -1,21 +1,15 @@
 -- Ids and lengths of the bars from i on are left to be stored.
 -- Assumes nothing.
-use mathlib.Core.Path.{_≡_}
-use mathlib.Core.List.{map}
 use Prim.Native.Nat.{_+_, _-_, _*_, _≤_}
 use native.Mathlib.Omega.{arith}
-use lib.ListN.{length, drop, getD}
+use lib.ListN.{length, getD}
 use denote.Ref.{now}
 use borrow.Author.Needs.{needs}
-use Rattle.pad_words.specs.Words.{held}
-use Rattle.pad_words.proofs.Wholes.{whole-parts, held-many}
-use Rattle.pad_lists.proofs.Walks.{Walk, walk-start, walk-room, walk-next}
+use Rattle.pad_words.proofs.Wholes.{whole-parts}
+use Rattle.pad_lists.proofs.Walks.{walk-room}
 use Rattle.pad_lists.proofs.Columns.{Columns, columns-start, columns-next, columns-end}
 use Rattle.pad_lists.proofs.documents.gather_documents.Statement.{statement}
 use Rattle.pad_lists.proofs.documents.gather_documents.Tie as tie
-use Rattle.pad_lists.proofs.documents.gather_documents.Reads as reads
-use Rattle.pad_lists.proofs.documents.gather_documents.Lts as lts
-use Rattle.common.proofs.widths.long.Reads as long-reads
 
 abbrev Inv-loop : tie.InvT-loop
 Inv-loop pad ids₀ lengths₀ bars at₀ i₀ ids lengths at i = Columns pad at i ids lengths
@@ -23,17 +17,14 @@ Inv-loop pad ids₀ lengths₀ bars at₀ i₀ ids lengths at i = Columns pad at
 abbrev μ-loop : tie.MeasureT-loop
 μ-loop pad ids₀ lengths₀ bars at₀ i₀ ids lengths at i = bars - i
 
--- src/documents.rt:11:21
 shared-slice-read-long : tie.Need-shared-slice-read-long Inv-loop μ-loop
 shared-slice-read-long c =
     let s = c .before .before in
     omega (arith, whole-parts (now (s .args .pad)) (s .pre .whole-pad) .words)
 
--- src/documents.rt:11:9
 long-requires : tie.Need-long-requires Inv-loop μ-loop
 long-requires c κs = search needs
 
--- src/documents.rt:14:5
 loop-holds : tie.Need-loop-holds Inv-loop μ-loop
 loop-holds c = columns-start (c .before .before .before .pre)
 
@@ -49,81 +40,62 @@ room l =
 mul-ids : tie.Need-mul-ids Inv-loop μ-loop
 mul-ids c = search needs
 
--- src/documents.rt:15:18
 shared-slice-read-ids : tie.Need-shared-slice-read-ids Inv-loop μ-loop
 shared-slice-read-ids c = omega (arith, room (c .before))
 
--- src/documents.rt:15:9
 mul-ids-2 : tie.Need-mul-ids-2 Inv-loop μ-loop
 mul-ids-2 c = search needs
 
--- src/documents.rt:15:9
 element-write-ids : tie.Need-element-write-ids Inv-loop μ-loop
 element-write-ids c = search needs
 
--- src/documents.rt:16:26
 add-lengths : tie.Need-add-lengths Inv-loop μ-loop
 add-lengths c = search needs
 
--- src/documents.rt:16:22
 mul-lengths : tie.Need-mul-lengths Inv-loop μ-loop
 mul-lengths c = search needs
 
--- src/documents.rt:16:22
 shared-slice-read-lengths : tie.Need-shared-slice-read-lengths Inv-loop μ-loop
 shared-slice-read-lengths c = omega (arith, room (c .before .before))
 
--- src/documents.rt:16:9
 mul-lengths-2 : tie.Need-mul-lengths-2 Inv-loop μ-loop
 mul-lengths-2 c = search needs
 
--- src/documents.rt:16:9
 element-write-lengths : tie.Need-element-write-lengths Inv-loop μ-loop
 element-write-lengths c = search needs
 
--- src/documents.rt:17:32
 add-long : tie.Need-add-long Inv-loop μ-loop
 add-long c = search needs
 
--- src/documents.rt:17:28
 mul-long : tie.Need-mul-long Inv-loop μ-loop
 mul-long c = search needs
 
--- src/documents.rt:17:28
 shared-slice-read-long-2 : tie.Need-shared-slice-read-long-2 Inv-loop μ-loop
 shared-slice-read-long-2 c = omega (arith, room (c .before .before .before))
 
--- src/documents.rt:17:23
 long-requires-2 : tie.Need-long-requires-2 Inv-loop μ-loop
 long-requires-2 c κs = search needs
 
--- src/documents.rt:17:19
 mul-at : tie.Need-mul-at Inv-loop μ-loop
 mul-at c = omega (arith, room (c .before .before .before .before), c .long2 .ensures)
 
--- src/documents.rt:17:15
 add-at : tie.Need-add-at Inv-loop μ-loop
 add-at c = omega (arith, room (c .before .before .before .before), c .long2 .ensures)
 
--- src/documents.rt:17:9
 add-at-2 : tie.Need-add-at-2 Inv-loop μ-loop
 add-at-2 c = omega (arith, room (c .before .before .before .before), c .long2 .ensures)
 
--- src/documents.rt:18:9
 add-i : tie.Need-add-i Inv-loop μ-loop
 add-i c = search needs
 
--- src/documents.rt:14:5
 loop-less : tie.Need-loop-less Inv-loop μ-loop
 loop-less c = search needs
 
--- src/documents.rt:14:5
 loop-again : tie.Need-loop-again Inv-loop μ-loop
 loop-again c =
     let l = c .before .before .before .before in
     columns-next (l .before .loop .inv) (omega (arith, l .before .before .long .ensures)) _ (c .long2 .ensures)
 
--- src/documents.rt:7:1
 returns : tie.Need-returns Inv-loop μ-loop
 returns c = columns-end (c .before .loop .inv) (omega (arith, c .before .before .long .ensures))
 

@@ -11,35 +11,25 @@ use Rattle.pad_lists.proofs.Runs.{run-short}
 use Rattle.pad_lists.proofs.Gathering.{Gathering, Turn, gathering-start, turn, gathering-next, gathered}
 use Rattle.pad_lists.proofs.sound.gather_sound.Statement.{statement}
 use Rattle.pad_lists.proofs.sound.gather_sound.Tie as tie
-use Rattle.pad_lists.proofs.sound.gather_sound.Reads as reads
-use Rattle.pad_lists.proofs.sound.gather_sound.Lts as lts
-use Rattle.common.proofs.widths.long.Reads as long-reads
-use Rattle.pad_lists.proofs.sound.gather_run.Reads as gather-run-reads
-use Rattle.pad_lists.proofs.sound.past_posting.Reads as past-posting-reads
 
 abbrev Inv-loop : tie.InvT-loop
-Inv-loop pad sound cursors₀ posting-ids₀ counts₀ positions₀ bars at₀ i₀ postings₀ filled₀ cursors posting-ids counts positions at i postings filled =
-    Gathering pad sound at i postings filled cursors posting-ids counts positions
+Inv-loop pad sound cs₀ ids₀ counts₀ positions₀ bars at₀ i₀ n₀ filled₀ cs ids counts positions at i n filled =
+    Gathering pad sound at i n filled cs ids counts positions
 
 abbrev μ-loop : tie.MeasureT-loop
-μ-loop pad sound cursors₀ posting-ids₀ counts₀ positions₀ bars at₀ i₀ postings₀ filled₀ cursors posting-ids counts positions at i postings filled =
-    bars - i
+μ-loop pad sound cs₀ ids₀ counts₀ positions₀ bars at₀ i₀ n₀ filled₀ cs ids counts positions at i n filled = bars - i
 
--- src/sound.rt:70:21
 shared-slice-read-long : tie.Need-shared-slice-read-long Inv-loop μ-loop
 shared-slice-read-long c =
     let s = c .before .before in
     omega (arith, whole-parts (now (s .args .pad)) (s .pre .whole-pad) .words)
 
--- src/sound.rt:70:9
 long-requires : tie.Need-long-requires Inv-loop μ-loop
 long-requires c κs = search needs
 
--- src/sound.rt:75:5
 loop-holds : tie.Need-loop-holds Inv-loop μ-loop
 loop-holds c = gathering-start (c .before .before .before .pre)
 
--- src/sound.rt:76:29
 -- at a turn
 at-turn : (l : tie.In-loop Inv-loop μ-loop) →
     let a = l .before .before .before .before .before .args in
@@ -50,47 +40,36 @@ at-turn l = turn (l .before .loop .inv) (omega (arith, l .before .before .long .
 add-long : tie.Need-add-long Inv-loop μ-loop
 add-long c = omega (arith, at-turn c)
 
--- src/sound.rt:76:25
 mul-long : tie.Need-mul-long Inv-loop μ-loop
 mul-long c = omega (arith, at-turn c)
 
--- src/sound.rt:76:25
 shared-slice-read-long-2 : tie.Need-shared-slice-read-long-2 Inv-loop μ-loop
 shared-slice-read-long-2 c = omega (arith, at-turn (c .before))
 
--- src/sound.rt:76:13
 long-requires-2 : tie.Need-long-requires-2 Inv-loop μ-loop
 long-requires-2 c κs = search needs
 
--- src/sound.rt:77:25
 mul-long-2 : tie.Need-mul-long-2 Inv-loop μ-loop
 mul-long-2 c = omega (arith, at-turn (c .before .before))
 
--- src/sound.rt:77:25
 element-copy-out-long : tie.Need-element-copy-out-long Inv-loop μ-loop
 element-copy-out-long c = omega (arith, at-turn (c .before .before))
 
--- src/sound.rt:77:13
 long-requires-3 : tie.Need-long-requires-3 Inv-loop μ-loop
 long-requires-3 c κs = search needs
 
--- src/sound.rt:78:36
 add-gather-run : tie.Need-add-gather-run Inv-loop μ-loop
 add-gather-run c = omega (arith, at-turn (c .before .before .before .before))
 
--- src/sound.rt:78:45
 mul-gather-run : tie.Need-mul-gather-run Inv-loop μ-loop
 mul-gather-run c = omega (arith, at-turn (c .before .before .before .before))
 
--- src/sound.rt:78:36
 add-gather-run-2 : tie.Need-add-gather-run-2 Inv-loop μ-loop
 add-gather-run-2 c = omega (arith, at-turn (c .before .before .before .before))
 
--- src/sound.rt:78:55
 sub-gather-run : tie.Need-sub-gather-run Inv-loop μ-loop
 sub-gather-run c = omega (arith, at-turn (c .before .before .before .before))
 
--- src/sound.rt:78:13
 gather-run-requires : tie.Need-gather-run-requires Inv-loop μ-loop
 gather-run-requires c κs =
     let l = c .before .before .before .before .before in
@@ -101,7 +80,6 @@ gather-run-requires c κs =
       positions-long = l .before .loop .inv .listed .positions-long;
     }
 
--- src/sound.rt:79:21
 -- behind the run
 abbrev turn-of : tie.After-gather-run Inv-loop μ-loop → tie.In-loop Inv-loop μ-loop
 turn-of r = r .before .before .before .before .before .before
@@ -125,75 +103,57 @@ done-few r =
 sub-count : tie.Need-sub-count Inv-loop μ-loop
 sub-count c = search needs
 
--- src/sound.rt:80:33
 mul-posting-ids : tie.Need-mul-posting-ids Inv-loop μ-loop
 mul-posting-ids c = search needs
 
--- src/sound.rt:80:33
 shared-slice-read-posting-ids : tie.Need-shared-slice-read-posting-ids Inv-loop μ-loop
 shared-slice-read-posting-ids c = omega (arith, at-turn (turn-of (c .before)))
 
--- src/sound.rt:80:9
 mul-posting-ids-2 : tie.Need-mul-posting-ids-2 Inv-loop μ-loop
 mul-posting-ids-2 c = search needs
 
--- src/sound.rt:80:9
 element-write-posting-ids : tie.Need-element-write-posting-ids Inv-loop μ-loop
 element-write-posting-ids c = omega (arith, at-turn (turn-of (c .before)))
 
--- src/sound.rt:81:28
 cast-counts : tie.Need-cast-counts Inv-loop μ-loop
 cast-counts c = omega (arith, done-few (c .before))
 
--- src/sound.rt:81:9
 mul-counts : tie.Need-mul-counts Inv-loop μ-loop
 mul-counts c = search needs
 
--- src/sound.rt:81:9
 element-write-counts : tie.Need-element-write-counts Inv-loop μ-loop
 element-write-counts c = omega (arith, at-turn (turn-of (c .before)))
 
--- src/sound.rt:82:23
 add-cursors : tie.Need-add-cursors Inv-loop μ-loop
 add-cursors c = omega (arith, done-few (c .before))
 
--- src/sound.rt:82:22
 cast-cursors : tie.Need-cast-cursors Inv-loop μ-loop
 cast-cursors c = omega (arith, done-few (c .before))
 
--- src/sound.rt:82:9
 mul-cursors : tie.Need-mul-cursors Inv-loop μ-loop
 mul-cursors c = search needs
 
--- src/sound.rt:82:9
 element-write-cursors : tie.Need-element-write-cursors Inv-loop μ-loop
 element-write-cursors c = search needs
 
--- src/sound.rt:83:9
 past-posting-requires : tie.Need-past-posting-requires Inv-loop μ-loop
 past-posting-requires c κs = omega (arith, at-turn (turn-of (c .before)))
 
--- src/sound.rt:85:19
 mul-at : tie.Need-mul-at Inv-loop μ-loop
 mul-at c = omega (arith, at-turn (turn-of (c .before .before)), c .before .before .before .before .before .before .long2 .ensures)
 
--- src/sound.rt:85:15
 add-at : tie.Need-add-at Inv-loop μ-loop
 add-at c = omega (arith, at-turn (turn-of (c .before .before)), c .before .before .before .before .before .before .long2 .ensures)
 
--- src/sound.rt:85:9
 add-at-2 : tie.Need-add-at-2 Inv-loop μ-loop
 add-at-2 c = omega (arith, at-turn (turn-of (c .before .before)), c .before .before .before .before .before .before .long2 .ensures)
 
--- src/sound.rt:86:9
 add-i : tie.Need-add-i Inv-loop μ-loop
 add-i c = search needs
 
--- src/sound.rt:75:5
 loop-less : tie.Need-loop-less Inv-loop μ-loop
 loop-less c = search needs
 
--- src/sound.rt:75:5
 loop-again : tie.Need-loop-again Inv-loop μ-loop
 loop-again c =
     let run = c .before .before in
@@ -203,7 +163,6 @@ loop-again c =
     gathering-next (l .before .loop .inv) (omega (arith, l .before .before .long .ensures)) (hits .long2 .ensures) (done .long3 .ensures)
     (run .gather-run .ensures) refl (c .past-posting .ensures)
 
--- src/sound.rt:59:1
 returns : tie.Need-returns Inv-loop μ-loop
 returns c = gathered (c .before .loop .inv) (omega (arith, c .before .before .long .ensures)) refl refl
 

@@ -9,7 +9,7 @@ use denote.Ref.{now}
 use borrow.Author.Tests.{not-true, not-false}
 use borrow.Author.Needs.{needs}
 use native.Mathlib.Omega.{arith}
-use Rattle.pad_words.specs.declared.place.Place.the-variants.{Held, Free}
+use Rattle.pad_words.specs.declared.place.Place.the-variants.{Held}
 use Rattle.pad_words.specs.Words.{held}
 use Rattle.pad_words.specs.Whole.{whole}
 use Rattle.pad_words.specs.Steps.{place-from}
@@ -29,21 +29,24 @@ words c = now (entry c .args .pad)
 is-one : (c : tie.Else1) → whole (words c) ≡ true
 is-one c = sym (c .before .is-whole .ensures) ∙ not-false _ (c .if1 .left)
 
--- where the bar stands
+-- where the bar begins
+abbrev before-at : tie.After-at → tie.Else1
+before-at c = c .before .before .before .before
+
 abbrev at : tie.After-at → ℕ
 at c = c .at .given .0 .0
 
-stands : (c : tie.After-at) → let e = c .before .before .before .before in place-from 2 (held (words e)) (entry e .args .id) ≡ Held (at c)
-stands c = sym (c .before .before .place-of .ensures) ∙ c .at .given .1
+begins : (c : tie.After-at) → let e = before-at c in place-from 2 (held (words e)) (entry e .args .id) ≡ Held (at c)
+begins c = sym (c .before .before .place-of .ensures) ∙ c .at .given .1
 
-fit : (c : tie.After-at) → let e = c .before .before .before .before in Erasable (words e) (entry e .args .id) (is-one e) (stands c)
-fit c = let e = c .before .before .before .before in erasable (words e) (entry e .args .id) (is-one e) (stands c)
+fit : (c : tie.After-at) → let e = before-at c in Erasable (words e) (entry e .args .id) (is-one e) (begins c)
+fit c = let e = before-at c in erasable (words e) (entry e .args .id) (is-one e) (begins c)
 
 -- behind the move
 abbrev later : tie.After-slice-known5 → tie.After-at
 later c = c .before .before .before .before .before .before .before .before .before .before .before
 
-moved-length : (c : tie.After-slice-known5) → length (c .before .before .move-down .last .0) ≡ length (words (later c .before .before .before .before))
+moved-length : (c : tie.After-slice-known5) → length (c .before .before .move-down .last .0) ≡ length (words (before-at (later c)))
 moved-length c = put-same (c .before .before .move-down .ensures)
 
 is-whole-requires : tie.Need-is-whole-requires
@@ -119,13 +122,19 @@ add-end-2 : tie.Need-add-end-2
 add-end-2 c = omega (arith, fit (c .before .before .before .before .before .before .before), c .before .long2 .ensures, c .long3 .ensures)
 
 mul-move-down : tie.Need-mul-move-down
-mul-move-down c = omega (arith, fit (c .before .before .before .before .before .before .before .before), c .before .before .before .long .ensures)
+mul-move-down c =
+    let k = c .before .before .before in
+    omega (arith, fit (k .before .before .before .before .before), k .long .ensures)
 
 add-move-down : tie.Need-add-move-down
-add-move-down c = omega (arith, fit (c .before .before .before .before .before .before .before .before), c .before .before .before .long .ensures)
+add-move-down c =
+    let k = c .before .before .before in
+    omega (arith, fit (k .before .before .before .before .before), k .long .ensures)
 
 add-move-down-2 : tie.Need-add-move-down-2
-add-move-down-2 c = omega (arith, fit (c .before .before .before .before .before .before .before .before), c .before .before .before .long .ensures)
+add-move-down-2 c =
+    let k = c .before .before .before in
+    omega (arith, fit (k .before .before .before .before .before), k .long .ensures)
 
 move-down-requires : tie.Need-move-down-requires
 move-down-requires c κs =
@@ -154,11 +163,11 @@ same-length-3 c = search needs
 returns-3 : tie.Need-returns-3
 returns-3 c =
     let k = later c in
-    let e = k .before .before .before .before in
+    let e = before-at k in
     let t = c .before .before .before .before in
     was-erased (words e) (entry e .args .id) (is-one e) (at k) _ _ (t .before .before .long .ensures)
-    (erase-fine (words e) (entry e .args .id) (is-one e) (stands k))
-    (erase-stores (words e) (entry e .args .id) (is-one e) (stands k) _ _ _ (t .before .before .long .ensures)
+    (erase-fine (words e) (entry e .args .id) (is-one e) (begins k))
+    (erase-stores (words e) (entry e .args .id) (is-one e) (begins k) _ _ _ (t .before .before .long .ensures)
     (omega (arith, t .before .long2 .ensures, t .long3 .ensures)) (c .before .before .move-down .ensures))
 
 pub pad-erase-spec : {M : Type 1} → statement M

@@ -1,12 +1,23 @@
 -- The words behind the place moved up, three words stored, and the hits.
 -- Assumes nothing.
-use mathlib.Core.Path.{_≡_, sym, ap, _∙_}
+use mathlib.Core.Path.{_≡_, _∙_}
 use lib.ListN.{length, length-set}
+use denote.Ref.{now}
 use Rattle.pad_record.proofs.Moving.{put-same, three-sets, put-four}
 use native.Mathlib.Omega.{arith}
 use borrow.Author.Needs.{needs}
 use Rattle.pad_record.proofs.put.put_bar.Statement.{statement}
 use Rattle.pad_record.proofs.put.put_bar.Tie as tie
+
+-- behind the move
+abbrev moved : tie.After-slice-known2 → tie.After-move-up
+moved c = c .before .before
+
+abbrev start : tie.After-move-up → tie.Start
+start c = c .before .before .before .before .before
+
+still : (c : tie.After-slice-known2) → length (moved c .move-up .last .0) ≡ length (now (start (moved c) .args .pad))
+still c = put-same (moved c .move-up .ensures)
 
 mul-move-up : tie.Need-mul-move-up
 mul-move-up c = search needs
@@ -30,7 +41,7 @@ mul-pad-2 : tie.Need-mul-pad-2
 mul-pad-2 c = search needs
 
 slice-write-pad-2 : tie.Need-slice-write-pad-2
-slice-write-pad-2 c = simp length-set (omega (arith, c .before .before .before .before .before .before .before .pre, put-same (c .before .before .move-up .ensures)))
+slice-write-pad-2 c = simp length-set (omega (arith, start (moved c) .pre, still c))
 
 cast-pad : tie.Need-cast-pad
 cast-pad c = search needs
@@ -42,27 +53,26 @@ mul-pad-3 : tie.Need-mul-pad-3
 mul-pad-3 c = search needs
 
 slice-write-pad-3 : tie.Need-slice-write-pad-3
-slice-write-pad-3 c = simp length-set (omega (arith, c .before .before .before .before .before .before .before .pre, put-same (c .before .before .move-up .ensures)))
+slice-write-pad-3 c = simp length-set (omega (arith, start (moved c) .pre, still c))
 
 add-put-hits : tie.Need-add-put-hits
 add-put-hits c = search needs
 
 put-hits-requires : tie.Need-put-hits-requires
 put-hits-requires c κs =
-    let e = c .before .before .before .before .before .before .before .before in
-    (e .pre .side-by-side, simp length-set (omega (arith, e .pre, put-same (c .before .before .before .move-up .ensures))))
+    let e = start (moved (c .before)) in
+    (e .pre .side-by-side, simp length-set (omega (arith, e .pre, still (c .before))))
 
 same-length : tie.Need-same-length
 same-length c =
-    let m = c .before .before .before .before .before .before in
-    let e = m .before .before .before .before .before in
-    put-same (c .before .before .put-hits .ensures) ∙ three-sets (m .move-up .last .0) (e .args .at) _ _ _ ∙ put-same (m .move-up .ensures)
+    let k = c .before .before .before .before in
+    let m = moved k in
+    put-same (c .before .before .put-hits .ensures) ∙ three-sets (m .move-up .last .0) (start m .args .at) _ _ _ ∙ still k
 
 returns : tie.Need-returns
 returns c =
-    let m = c .before .before .before .before .before .before in
-    let e = m .before .before .before .before .before in
-    record { left = put-four (e .args .at) _ _ _ (m .move-up .last .0) (m .move-up .ensures) (c .before .before .put-hits .ensures) }
+    let m = moved (c .before .before .before .before) in
+    record { left = put-four (start m .args .at) _ _ _ (m .move-up .last .0) (m .move-up .ensures) (c .before .before .put-hits .ensures) }
 
 pub put-bar-spec : {M : Type 1} → statement M
 put-bar-spec =

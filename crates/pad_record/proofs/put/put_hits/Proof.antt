@@ -1,11 +1,10 @@
 -- Once the hits still to come are stored too, all are.
 -- Assumes nothing.
-use mathlib.Core.Path.{_≡_, refl, sym, ap, _∙_}
-use Prim.Native.Nat.{ℕ, _+_, _-_, _*_, _≤_}
+use mathlib.Core.Path.{_≡_, refl, _∙_}
+use Prim.Native.Nat.{_+_, _-_, _*_, _≤_}
 use lib.ListN.{length, drop, length-set}
 use lib.Seq.{sets}
 use denote.Ref.{now}
-use Rattle.segment.specs.Records.{between}
 use Rattle.pad_map.specs.Bars.{hits-in}
 use Rattle.pad_words.specs.Words.{hit-words}
 use Rattle.pad_record.proofs.Moving.{two-sets, put-next, put-end}
@@ -84,7 +83,10 @@ returns c =
     let l = c .before in
     let e = l .before .before .before .before in
     let a = e .args in
-    record { left = put-end (l .loop .pad) (now (a .sounds)) (now (a .steps)) (l .loop .next) (l .loop .i) (e .pre .0) (l .loop .inv .3) (c .loop-test .left) }
+    let inv = l .loop .inv .3 in
+    record {
+      left = put-end (l .loop .pad) (now (a .sounds)) (now (a .steps)) (l .loop .next) (l .loop .i) (e .pre .0) inv (c .loop-test .left);
+    }
 
 pub put-hits-spec : {M : Type 1} → statement M
 put-hits-spec =

@@ -14,7 +14,7 @@ use Rattle.segment.proofs.Accepted.{passed-ok, refused-is}
 use Rattle.pad_map.specs.Rules.{check-hits}
 use Rattle.pad_map.specs.Claims.{Lists-well}
 use Rattle.pad_map.proofs.Saved.{check-exactly}
-use Rattle.pad_words.specs.declared.place.Place.the-variants.{Held, Free}
+use Rattle.pad_words.specs.declared.place.Place.the-variants.{Free}
 use Rattle.pad_words.specs.Words.{pad-words, held}
 use Rattle.pad_words.specs.Whole.{whole}
 use Rattle.pad_words.specs.Steps.{place-from}
@@ -34,7 +34,7 @@ words c = now (entry c .args .pad)
 is-one : (c : tie.Else1) → whole (words c) ≡ true
 is-one c = sym (c .before .is-whole .ensures) ∙ not-false _ (c .if1 .left)
 
--- the place is free
+-- the offset is free
 abbrev before-at : tie.After-at → tie.Else1
 before-at c = c .before .before .before .before
 
@@ -67,7 +67,7 @@ told c = c .before .before .before .before
 abbrev counted : tie.After-slice-known4 → tie.After-long2
 counted c = c .before .before .before .before .before .before
 
-put-length : (c : tie.After-slice-known4) → let e = before-at (at-of (told (counted c))) in length (c .before .before .put-bar .last .0) ≡ pad-words
+put-length : (c : tie.After-slice-known4) → length (c .before .before .put-bar .last .0) ≡ pad-words
 put-length c = bar-same (c .before .before .put-bar .ensures) ∙ parts (before-at (at-of (told (counted c)))) .words
 
 is-whole-requires : tie.Need-is-whole-requires
@@ -103,7 +103,8 @@ returns-2 : tie.Need-returns-2
 returns-2 c =
     let t = c .before in
     let e = t .before .before .before .before in
-    rw (c .already-held .ensures) (not-saved _ _ _ _ _ (save-held _ _ _ _ _ (is-one e) (sym (t .before .before .place-of .ensures) ∙ t .enum-told .given .1)))
+    rw (c .already-held .ensures)
+    (not-saved _ _ _ _ _ (save-held _ _ _ _ _ (is-one e) (sym (t .before .before .place-of .ensures) ∙ t .enum-told .given .1)))
 
 check-hits-of-requires : tie.Need-check-hits-of-requires
 check-hits-of-requires c κs = search needs
@@ -146,7 +147,9 @@ returns-4 c =
     let l = c .before .before in
     let t = told l in
     let k = at-of t in
-    rw (c .pad-full .ensures) (not-saved _ _ _ _ _ (save-bars _ _ _ _ _ (is-one (before-at k)) (free k) (passes t)
+    rw (c .pad-full .ensures)
+    (not-saved _ _ _ _ _
+    (save-bars _ _ _ _ _ (is-one (before-at k)) (free k) (passes t)
     (omega (arith, l .before .before .long .ensures, c .before .if2 .taken))))
 
 add-if3 : tie.Need-add-if3
@@ -163,8 +166,11 @@ returns-5 c =
     let l = c .before .before .before in
     let t = told l in
     let k = at-of t in
-    rw (c .pad-full2 .ensures) (not-saved _ _ _ _ _ (save-hits _ _ _ _ _ (is-one (before-at k)) (free k) (passes t)
-    (omega (arith, l .before .before .long .ensures, c .before .before .if2 .left)) (omega (arith, l .long2 .ensures, c .before .if3 .taken))))
+    rw (c .pad-full2 .ensures)
+    (not-saved _ _ _ _ _
+    (save-hits _ _ _ _ _ (is-one (before-at k)) (free k) (passes t)
+    (omega (arith, l .before .before .long .ensures, c .before .before .if2 .left))
+    (omega (arith, l .long2 .ensures, c .before .if3 .taken))))
 
 mul-put-bar : tie.Need-mul-put-bar
 mul-put-bar c = search needs

@@ -3,7 +3,6 @@
 use mathlib.Core.Path.{sym, ap, _∙_}
 use borrow.Author.Tests.{not-true, not-false}
 use borrow.Author.Needs.{needs}
-use native.Mathlib.Omega.{arith}
 use Rattle.segment.specs.Steps.{checked}
 use Rattle.pad_rules.proofs.Listing.{many-sounds, many-steps, uneven, sound-high, order-wrong, step-past, all-passed}
 use Rattle.pad_rules.proofs.lists.check_hits_of.Statement.{statement}

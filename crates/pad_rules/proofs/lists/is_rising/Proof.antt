@@ -45,11 +45,12 @@ follows-requires c κs = search needs
 
 returns : tie.Need-returns Inv-loop μ-loop
 returns c =
-    let l = c .before .before .before .before .before .before in
+    let t = c .before .before .before in
+    let l = t .before .before .before in
     let e = l .before .before .before in
     let a = e .args in
-    rise-stop _ (now (a .sounds)) (now (a .steps)) (e .pre) (l .loop .i) (l .loop .inv .1) (c .before .before .before .before .before .loop-test .taken) _
-    (c .before .before .before .byte .ensures) (sym (not-true _ (c .if1 .taken)) ∙ c .before .follows .ensures)
+    rise-stop _ (now (a .sounds)) (now (a .steps)) (e .pre) (l .loop .i) (l .loop .inv .1) (t .before .before .loop-test .taken) _
+    (t .byte .ensures) (sym (not-true _ (c .if1 .taken)) ∙ c .before .follows .ensures)
 
 add-i : tie.Need-add-i Inv-loop μ-loop
 add-i c = search needs
@@ -59,13 +60,14 @@ loop-less c = search needs
 
 loop-again : tie.Need-loop-again Inv-loop μ-loop
 loop-again c =
-    let l = c .before .before .before .before .before .before in
+    let t = c .before .before .before in
+    let l = t .before .before .before in
     let e = l .before .before .before in
     let a = e .args in (
       omega arith,
       rw (earlier-next (l .loop .i) _)
-          (rise-next _ (now (a .sounds)) (now (a .steps)) (e .pre) (l .loop .i) (l .loop .inv .1) (c .before .before .before .before .before .loop-test .taken) _
-          (c .before .before .before .byte .ensures) (sym (not-false _ (c .if1 .left)) ∙ c .before .follows .ensures)),
+          (rise-next _ (now (a .sounds)) (now (a .steps)) (e .pre) (l .loop .i) (l .loop .inv .1) (t .before .before .loop-test .taken) _
+          (t .byte .ensures) (sym (not-false _ (c .if1 .left)) ∙ c .before .follows .ensures)),
     )
 
 returns-2 : tie.Need-returns-2 Inv-loop μ-loop

@@ -1,1 +1,0 @@
--- Crate pad_map defines the rules; nothing is added here.
