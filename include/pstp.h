@@ -2,20 +2,22 @@
  *
  * In a drum machine a document is a bar, a term a sound, a position a step. The calls are those of src/positional/raw.rs of
  * arclabs561/postings (see NOTICE), ported to Rattle and proved, and beyond them pstp_midi_bars, which reads bars from a MIDI file,
- * pstp_bar_sheet, which shows a bar in lines of text, pstp_phrase_match_ranked, which lists the best bars first, and the calls with a
- * handle (pstp_check), for a segment that is checked once and asked often. docs/FORMAT.md describes the format, the order of the checks and
- * the rules of the search; docs/GLOSSARY.md explains the words. Link with libpstp.a (`rt staticlib pstp`, x86-64 Linux). C99 and C++.
+ * pstp_bar_sheet, which shows a bar in lines of text, pstp_phrase_match_ranked, which lists the best bars first, the calls with a handle
+ * (pstp_check), for a segment that is checked once and asked often, and those on a pad (pstp_pad_save), which holds bars before they are
+ * written. docs/FORMAT.md describes the format, the order of the checks and the rules of the search; docs/GLOSSARY.md explains the words.
+ * Link with libpstp.a (`rt staticlib pstp`, x86-64 Linux). C99 and C++.
  *
  * What every call guarantees
  *
- *  - A slice is a pointer and a number of elements. The contents may be anything: broken segments and MIDI files, lists that do not fit
- *    together, any name and any buffer length are either accepted or refused.
+ *  - A slice is a pointer and a number of elements. The contents may be anything: broken segments, MIDI files and pads, lists that do not
+ *    fit together, any name and any buffer length are either accepted or refused.
  *  - A reply with kind PSTP_ACCEPTED has the answer in `first` to `fourth` (0 where the call names none), and which = index = 0. Any other
  *    kind is a refusal: kind, which and index say what was refused, first to fourth are 0, and every lent buffer is unchanged.
  *  - After acceptance an answer of n elements fills the first n elements of its buffer; the elements behind them are unchanged.
  *  - No call allocates memory, opens a file or keeps state, and all calls are thread-safe. No pointer is kept after the return.
  *  - Stack: under 36 KiB for the searches, under 16 KiB for a search with a checked handle and for pstp_check, pstp_midi_bars and
- *    pstp_bar_sheet (tables of 128 places), under 4 KiB for every other call. This is measured (tests/c/stack.c), not proved.
+ *    pstp_bar_sheet (tables of 128 places), under 64 KiB for pstp_pad_write (a sound's steps), under 4 KiB for every other call. This is
+ *    measured (tests/c/stack.c), not proved.
  *
  * What the caller must ensure
  *
@@ -28,10 +30,11 @@
  *
  * How large a buffer must be
  *
- *  Lend an empty buffer: PSTP_NO_ROOM returns in `which` the first buffer that is too short (from 1, in the order of the parameters) and
- *  in `index` the length it needs. An answer of no elements is accepted at once. Or lend what is always enough and save the second call
- *  (each call without a handle opens and checks the whole segment again): for ids, lengths and counts, the number of documents that
- *  pstp_open returns and an accepted handle has. pstp_midi_bars and pstp_bar_sheet say themselves what is always enough.
+ *  Lend an empty buffer: PSTP_NO_ROOM returns in `which` the first buffer that is too short (from 1, in the order of the parameters; a pad
+ *  is not counted) and in `index` the length it needs. An answer of no elements is accepted at once. Or lend what is always enough and save
+ *  the second call (each call without a handle opens and checks the whole segment again): for ids, lengths and counts, the number of
+ *  documents that pstp_open returns and an accepted handle has. pstp_midi_bars, pstp_bar_sheet, pstp_pad_read and pstp_pad_write say
+ *  themselves what is always enough.
  */
 #ifndef PSTP_H
 #define PSTP_H
@@ -65,7 +68,7 @@ enum {
     PSTP_UNSUPPORTED_VERSION = 3, /* not version 2 (index: the version) */
     PSTP_UNSUPPORTED_FLAGS = 4,   /* flags other than 0 (index: the flags) */
     PSTP_CHECKSUM_MISMATCH = 5,   /* wrong checksum (which: section) */
-    PSTP_INVALID_LAYOUT = 6,      /* invalid layout, also of what is written (which: reason) */
+    PSTP_INVALID_LAYOUT = 6,      /* invalid layout, also of what is written or saved (which: reason) */
     PSTP_INVALID_VARINT = 7,      /* not a number of 1 to 5 bytes below 2^32 (which: section; index: of the element) */
     PSTP_DOC_ID_OVERFLOW = 8,     /* a document id above 2^32 - 1 (index: of the element) */
     PSTP_POSITION_OVERFLOW = 9,   /* a position above 2^32 - 1 (index: of the element) */
@@ -75,8 +78,9 @@ enum {
 
     /* Caused by the caller. */
     PSTP_LIST_SHAPE = 11, /* the lists do not fit together: ends decrease or do not end at the text's length, parallel lists differ in
-                             length, or counts do not add up */
-    PSTP_TOO_LARGE = 12,  /* a list, text or MIDI file of over PSTP_LIMIT elements, or a question of over PSTP_NAMES names */
+                             length, counts do not add up, or a pad's names are not PSTP_PAD_SOUNDS */
+    PSTP_TOO_LARGE = 12,  /* a list, text or MIDI file of over PSTP_LIMIT elements, a question of over PSTP_NAMES names, or a sound to
+                             save that is above 127 */
     PSTP_NO_ROOM = 13,    /* a lent buffer is too short for the whole answer (which: buffer, from 1; index: the length needed) */
 
     /* Caused by the MIDI file. */
@@ -86,8 +90,13 @@ enum {
     PSTP_BAR_TOO_FAR = 15, /* a hit beyond bar 65,535 */
 
     /* Caused by the id of the bar that the caller asks for. */
-    PSTP_UNKNOWN_BAR = 16, /* no bar has this id */
-    PSTP_BAR_TOO_LONG = 17 /* the bar has over PSTP_SHEET_STEPS steps */
+    PSTP_UNKNOWN_BAR = 16,  /* no bar has this id */
+    PSTP_BAR_TOO_LONG = 17, /* the bar has over PSTP_SHEET_STEPS steps */
+
+    /* Caused by a pad and what is to be saved on it. */
+    PSTP_ALREADY_HELD = 18, /* the pad holds a bar of this id */
+    PSTP_PAD_FULL = 19,     /* the pad holds PSTP_PAD_BARS bars, or would hold over PSTP_PAD_HITS hits */
+    PSTP_BROKEN_PAD = 20    /* the words are no pad ("A pad to record on") */
 };
 
 /* Sections: `which` of kinds 1, 5 and 7. */
@@ -118,7 +127,7 @@ enum {
     PSTP_REASON_POSITION_EXCEEDS_LENGTH = 13,
     PSTP_REASON_TRAILING_POSTING_BYTES = 14,
 
-    /* Writing. */
+    /* Writing; 20 and 21 also saving on a pad. */
     PSTP_REASON_DOCUMENT_LENGTHS_NOT_INCREASING = 15,
     PSTP_REASON_TERMS_NOT_INCREASING = 16,
     PSTP_REASON_POSTING_ID_GAP_UNDERFLOW = 17,
@@ -399,6 +408,90 @@ pstp_reply pstp_midi_bars(const uint8_t *file, size_t file_len, uint32_t *ids, s
  * Refusals: opening; 16 (no bar has this id); 17 (the bar has over 64 steps); decoding the list of every term in the order of the
  * directory, whether or not the bar has the sound; 13/1 out. */
 pstp_reply pstp_bar_sheet(const uint8_t *segment, size_t segment_len, uint32_t id, uint8_t *out, size_t out_len);
+
+/* A pad to record on
+ *
+ * A pad holds bars before they are written as a segment: it is a map from id to bar, of at most 256 bars with 8,192 hits in all. A bar has
+ * a length and hits; a hit is a sound, 0 to 127, and a step below the length. Every id and length is allowed, 0 too, and a bar may have no
+ * hits. The caller owns the pad, PSTP_PAD_WORDS words, and may copy and store it. All zeros is the empty pad:
+ *
+ *     uint32_t pad[PSTP_PAD_WORDS] = {0};
+ *
+ * Saving and erasing change the pad; reading back and writing out leave every word of it, as does a refusal. A bar fits whenever the
+ * numbers of bars and hits allow it, whatever was saved and erased before.
+ *
+ * Layout:
+ *
+ *  word 0           the number of bars, at most 256
+ *  word 1           the number of their hits, at most 8,192
+ *  from word 2 on   the bars by strictly increasing id, one behind the other. A bar: its id, its length, the number of its hits, then the
+ *                   hits by strictly increasing sound, then step. A hit: its sound, its step
+ *  behind the last  free words. They may be anything and no call looks at them. Saving moves the bars of higher id up over them, erasing
+ *                   moves these bars down again, and what then lies behind the last bar stays as it was
+ *
+ * Words laid out like this are a pad. All other words are refused by the four calls with 20, before all else, whatever else is wrong:
+ *
+ *  - another number of words than PSTP_PAD_WORDS, or a word 0 above 256, or a word 1 above 8,192;
+ *  - an id that is not above that of the bar before it, such as an id twice;
+ *  - a bar with hits that pstp_pad_save refuses: a sound above 127, a hit that is not above the one before it, by sound, then step, or a
+ *    step not below the length;
+ *  - a word 1 that is not the sum of the bars' numbers of hits, taken as numbers that do not wrap.
+ *
+ * From the empty pad no sequence of calls makes such words.
+ */
+#define PSTP_PAD_WORDS 17154 /* 2, and 3 for each of the bars, and 2 for each of the hits */
+#define PSTP_PAD_BARS 256    /* bars of a pad */
+#define PSTP_PAD_HITS 8192   /* hits of all bars */
+#define PSTP_PAD_SOUNDS 128  /* sounds, each with a name when the pad is written out */
+
+/* Indexes of words: in the pad, from a bar's first word, from a hit's first word; and how many words come before a bar's first hit, and
+ * make a hit. */
+#define PSTP_PAD_BAR_COUNT 0
+#define PSTP_PAD_HIT_COUNT 1
+#define PSTP_PAD_FIRST_BAR 2
+#define PSTP_PAD_BAR_ID 0
+#define PSTP_PAD_BAR_LENGTH 1
+#define PSTP_PAD_BAR_HITS 2
+#define PSTP_PAD_BAR_WORDS 3
+#define PSTP_PAD_HIT_SOUND 0
+#define PSTP_PAD_HIT_STEP 1
+#define PSTP_PAD_HIT_WORDS 2
+
+/* Saves a bar under an id that is not held.
+ * first: number of hits.
+ *
+ *  sounds, steps  the hits, side by side: sounds[i] on steps[i], by strictly increasing sound, then step
+ *
+ * Refusals: 20; 18 (the id is held); 12 (a list of over PSTP_LIMIT elements); 11 (the lists differ in length); then, each over all hits
+ * before the next, 12 (a sound above 127), 6/20 (a hit that is not above the one before it), 6/21 (a step not below the length); 19 (256
+ * bars are held, or held and new hits are over 8,192). */
+pstp_reply pstp_pad_save(uint32_t *pad, size_t pad_len, uint32_t id, uint32_t length, const uint8_t *sounds, size_t sounds_len,
+                         const uint32_t *steps, size_t steps_len);
+
+/* Erases a bar; its room serves the next.
+ * first: number of hits that it had.
+ * Refusals: 20; 16 (the id is not held). */
+pstp_reply pstp_pad_erase(uint32_t *pad, size_t pad_len, uint32_t id);
+
+/* Reads a bar back.
+ * first: number of hits, each with one element of sounds and of steps, in the order saved; second: the bar's length.
+ * Always enough for sounds and steps: 8,192.
+ * Refusals: 20; 16 (the id is not held); 13/1 sounds, 13/2 steps. */
+pstp_reply pstp_pad_read(const uint32_t *pad, size_t pad_len, uint32_t id, uint8_t *sounds, size_t sounds_len, uint32_t *steps,
+                         size_t steps_len);
+
+/* Writes the pad out as a segment to the beginning of out: what pstp_write_positional_segment writes for its bars, by increasing id, and
+ * its sounds, by increasing number. A sound without hits is left out.
+ * first: the segment's length in bytes.
+ *
+ *  text, ends  the names of the 128 sounds by number, as the names of a question. A name of a sound without hits may be anything; the
+ *              others increase strictly in byte order
+ *
+ * Always enough for out: 129,608 + text_len (a bar takes at most 10 bytes, a hit 15, a sound 32 and its name).
+ * Refusals: 20; 12 for text and ends; 11 (not 128 ends, or ends that decrease or do not end at the text's length); for each sound that has
+ * hits 10, 6/6, 6/16; 13/1 out. */
+pstp_reply pstp_pad_write(const uint32_t *pad, size_t pad_len, const uint8_t *text, size_t text_len, const uint32_t *ends,
+                          size_t ends_len, uint8_t *out, size_t out_len);
 
 #ifdef __cplusplus
 }

@@ -92,6 +92,9 @@ int main(void) {
     test_midi_events();
     test_midi_limits();
     test_sheet();
+    test_pad();
+    test_pad_broken();
+    test_pad_limits();
     test_handles();
     test_limits();
     test_empty();

@@ -65,5 +65,20 @@ void test_empty(void) {
                  refused(13, 3, 4));
     expect_reply(note, pstp_bar_sheet(NULL, 0, 3, NULL, 0), refused(1, 1, 0));
     expect_reply(note, pstp_bar_sheet(s.at, s.len, 3, NULL, 0), refused(13, 1, 243));
+    uint32_t pad[PSTP_PAD_WORDS] = {0}, name_ends[PSTP_PAD_SOUNDS] = {0};
+    uint8_t sounds[1];
+    expect_reply(note, pstp_pad_save(NULL, 0, 3, 4, NULL, 0, NULL, 0), refused(20, 0, 0));
+    expect_reply(note, pstp_pad_erase(NULL, 0, 3), refused(20, 0, 0));
+    expect_reply(note, pstp_pad_read(NULL, 0, 3, NULL, 0, NULL, 0), refused(20, 0, 0));
+    expect_reply(note, pstp_pad_write(NULL, 0, NULL, 0, NULL, 0, NULL, 0), refused(20, 0, 0));
+    expect_reply(note, pstp_pad_save(pad, PSTP_PAD_WORDS, 3, 4, NULL, 0, NULL, 0), accepted(0, 0));
+    expect_reply(note, pstp_pad_read(pad, PSTP_PAD_WORDS, 3, NULL, 0, NULL, 0), accepted(0, 4));
+    expect_reply(note, pstp_pad_save(pad, PSTP_PAD_WORDS, 4, 4, kick, 1, none, 1), accepted(1, 0));
+    expect_reply(note, pstp_pad_read(pad, PSTP_PAD_WORDS, 4, NULL, 0, NULL, 0), refused(13, 1, 1));
+    expect_reply(note, pstp_pad_read(pad, PSTP_PAD_WORDS, 4, sounds, 1, NULL, 0), refused(13, 2, 1));
+    expect_reply(note, pstp_pad_write(pad, PSTP_PAD_WORDS, NULL, 0, name_ends, 128, NULL, 0), refused(6, 6, 0));
+    expect_reply(note, pstp_pad_write(pad, PSTP_PAD_WORDS, NULL, 0, NULL, 0, NULL, 0), refused(11, 0, 0));
+    expect_reply(note, pstp_pad_erase(pad, PSTP_PAD_WORDS, 4), accepted(1, 0));
+    expect_reply(note, pstp_pad_write(pad, PSTP_PAD_WORDS, NULL, 0, name_ends, 128, NULL, 0), refused(13, 1, 74));
     expect_filled(note, &x, nowhere, 0);
 }

@@ -6,7 +6,7 @@
 #include <stddef.h>
 
 /* Places for slices that are used at the same time, each between two pages that cannot be touched, and how much they hold. */
-enum { GUARDED_PLACES = 8, GUARDED_BYTES = 8192 };
+enum { GUARDED_PLACES = 8, GUARDED_BYTES = 262144 };
 
 /* A copy at the place's end, or at its beginning. */
 void *guarded(unsigned place, bool at_end, const void *from, size_t bytes);

@@ -7,7 +7,7 @@
 #include <string.h>
 #include <ucontext.h>
 
-enum { SEARCH = 36864, TABLES = 16384, OTHER = 4096, PAINT = 0xA5 };
+enum { PAD_WRITE = 65536, SEARCH = 36864, TABLES = 16384, OTHER = 4096, PAINT = 0xA5 };
 
 static uint8_t stack[4 * SEARCH];
 static ucontext_t host, guest;
@@ -35,6 +35,38 @@ static void make_file(void) {
         append(&file, hit, 3);
     }
     close_track(&file);
+}
+
+/* A pad of all 128 sounds, on 48 steps of bar 1 and 15 of bar 2; a bar of 64 hits more fits twice. */
+static uint32_t pad[PSTP_PAD_WORDS], hit_steps[6144];
+static uint8_t hit_sounds[6144], pad_segment[16384];
+
+static void make_hits(size_t n, uint32_t steps_of_each) {
+    for (size_t i = 0; i < n; i++) {
+        hit_sounds[i] = (uint8_t)(i / steps_of_each);
+        hit_steps[i] = (uint32_t)(i % steps_of_each);
+    }
+}
+
+static void make_pad(void) {
+    make_hits(6144, 48);
+    pstp_pad_save(pad, PSTP_PAD_WORDS, 1, 48, hit_sounds, 6144, hit_steps, 6144);
+    make_hits(1920, 15);
+    pstp_pad_save(pad, PSTP_PAD_WORDS, 2, 15, hit_sounds, 1920, hit_steps, 1920);
+}
+
+static void pad_save(void) {
+    make_hits(64, 1);
+    reply = pstp_pad_save(pad, PSTP_PAD_WORDS, room > 0 ? 0 : 3, 1, hit_sounds, 64, hit_steps, 64);
+}
+static void pad_erase(void) {
+    reply = pstp_pad_erase(pad, PSTP_PAD_WORDS, room > 0 ? 0 : 3);
+}
+static void pad_read(void) {
+    reply = pstp_pad_read(pad, PSTP_PAD_WORDS, 1, hit_sounds, room > 0 ? 6144 : 0, hit_steps, 6144);
+}
+static void pad_write(void) {
+    reply = pstp_pad_write(pad, PSTP_PAD_WORDS, text, 256, ends, 128, pad_segment, room > 0 ? sizeof pad_segment : 0);
 }
 
 static void midi_bars(void) {
@@ -151,6 +183,10 @@ static const struct row calls[] = {
     {"near_match", near_two, 3, 0, 0, 0, SEARCH},
     {"midi_bars", midi_bars, 2, 128, 256, 256, TABLES},
     {"bar_sheet", bar_sheet, 81 * 129, 0, 0, 0, TABLES},
+    {"pad_save", pad_save, 64, 0, 0, 0, OTHER},
+    {"pad_erase", pad_erase, 64, 0, 0, 0, OTHER},
+    {"pad_read", pad_read, 6144, 48, 0, 0, OTHER},
+    {"pad_write", pad_write, 72 + 32 * 128 + 256 + 2 * 2 + 128 * (50 + 17), 0, 0, 0, PAD_WRITE},
 };
 
 /* The calls that make a handle, and then, with each of the three, those that take one. */
@@ -216,12 +252,14 @@ static size_t measured(const struct row *row) {
 }
 
 void test_stack(void) {
-    size_t of_midi = 0, of_sheet = 0, of_check = 0;
+    size_t of_midi = 0, of_sheet = 0, of_pad = 0, of_check = 0;
     make_file();
+    make_pad();
     for (size_t i = 0; i < sizeof calls / sizeof calls[0]; i++) {
         size_t depth = measured(&calls[i]);
         of_midi = calls[i].call == midi_bars ? depth : of_midi;
         of_sheet = calls[i].call == bar_sheet ? depth : of_sheet;
+        of_pad = calls[i].call == pad_write ? depth : of_pad;
     }
     for (size_t i = 0; i < sizeof makers / sizeof makers[0]; i++) {
         size_t depth = measured(&makers[i]);
@@ -230,5 +268,6 @@ void test_stack(void) {
             measured(&handled[j]);
         }
     }
-    printf("stack: at most %zu bytes (%s); midi_bars %zu, bar_sheet %zu, check %zu\n", most, deepest, of_midi, of_sheet, of_check);
+    printf("stack: at most %zu bytes (%s); midi_bars %zu, bar_sheet %zu, pad_write %zu, check %zu\n", most, deepest, of_midi, of_sheet,
+           of_pad, of_check);
 }

@@ -33,7 +33,7 @@ pub enum Error {
     InvalidUtf8,
     /// Flat lists do not fit together. Slices of slices always do: no call of this crate gives it.
     ListShape,
-    /// A list, text or MIDI file handed in has over 16,777,216 elements, or a question over 128 terms.
+    /// A list, text or MIDI file handed in has over 16,777,216 elements, a question over 128 terms, or a sound to save is above 127.
     TooLarge,
     /// A lent buffer is too short. This crate lends buffers that suffice: no call of it gives this.
     NoRoom {
@@ -50,6 +50,12 @@ pub enum Error {
     UnknownBar,
     /// The bar asked for has more than 64 steps, too many for a sheet.
     BarTooLong,
+    /// The pad holds a bar of the id under which another is to be saved.
+    AlreadyHeld,
+    /// The pad holds 256 bars, or would hold over 8,192 hits.
+    PadFull,
+    /// Words that are no pad.
+    BrokenPad,
 }
 
 /// Sections, from 1.
@@ -123,6 +129,9 @@ impl Error {
             15 => Error::BarTooFar,
             16 => Error::UnknownBar,
             17 => Error::BarTooLong,
+            18 => Error::AlreadyHeld,
+            19 => Error::PadFull,
+            20 => Error::BrokenPad,
             _ => return None,
         })
     }
@@ -163,7 +172,7 @@ impl fmt::Display for Error {
             Error::TooLarge => {
                 write!(
                     f,
-                    "a list or file is too large or a question has too many terms"
+                    "a list or file is too large, a question has too many terms, or a sound is above 127"
                 )
             }
             Error::NoRoom { buffer, needed } => {
@@ -178,6 +187,9 @@ impl fmt::Display for Error {
             Error::BarTooFar => write!(f, "MIDI file has a hit beyond bar 65535"),
             Error::UnknownBar => write!(f, "no bar has this id"),
             Error::BarTooLong => write!(f, "bar has more than 64 steps"),
+            Error::AlreadyHeld => write!(f, "the pad already holds a bar of this id"),
+            Error::PadFull => write!(f, "the pad has no room for the bar"),
+            Error::BrokenPad => write!(f, "the words are no pad"),
         }
     }
 }
@@ -225,6 +237,9 @@ mod tests {
             ((15, 0, 0), Error::BarTooFar),
             ((16, 0, 0), Error::UnknownBar),
             ((17, 0, 0), Error::BarTooLong),
+            ((18, 0, 0), Error::AlreadyHeld),
+            ((19, 0, 0), Error::PadFull),
+            ((20, 0, 0), Error::BrokenPad),
         ];
         for ((kind, which, index), error) in cases {
             assert_eq!(Error::of_numbers(kind, which, index), Some(error));
@@ -235,7 +250,7 @@ mod tests {
     fn other_numbers_have_none() {
         for (kind, which, index) in [
             (0, 0, 0),
-            (18, 0, 0),
+            (21, 0, 0),
             (1, 0, 0),
             (5, 7, 0),
             (6, 0, 0),

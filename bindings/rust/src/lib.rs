@@ -29,8 +29,8 @@
 //!   [`RawPositionalSegment::open_once`] an [`OpenedSegment`], which still decodes the lists of each question, as the original does.
 //! - A question has at most 128 terms, and each list at most 16,777,216 elements; otherwise [`Error::TooLarge`].
 //! - Files and the hash-map index are left out. [`midi_bars`], which reads bars from a MIDI file,
-//!   [`RawPositionalSegment::bar_sheet`], which puts a bar on paper, and [`RawPositionalSegment::phrase_match_ranked`], which lists the
-//!   best bars first, are added.
+//!   [`RawPositionalSegment::bar_sheet`], which puts a bar on paper, [`RawPositionalSegment::phrase_match_ranked`], which lists the
+//!   best bars first, and [`Pad`], which holds bars before they are written, are added.
 #![deny(missing_docs)]
 #![deny(unsafe_code)]
 
@@ -38,6 +38,7 @@ mod checked;
 mod error;
 mod flat;
 mod midi;
+mod pad;
 mod room;
 mod segment;
 #[allow(unsafe_code)]
@@ -48,6 +49,7 @@ mod writer;
 pub use checked::{CheckedSegment, OpenedSegment};
 pub use error::Error;
 pub use midi::{midi_bars, MidiBars};
+pub use pad::{Bar, Hit, Pad};
 pub use segment::RawPositionalSegment;
 pub use types::{DocId, PositionalPosting, PositionalTermPostings, RawPositionalPosting, TokenPos};
 pub use writer::write_positional_segment;

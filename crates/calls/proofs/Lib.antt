@@ -14,6 +14,7 @@ pub mod Kept
 pub mod Parts
 pub mod Flat
 pub mod Unflat
+pub mod Shaped
 pub mod Lengths
 pub mod Sizes
 pub mod Well-formed

@@ -28,7 +28,7 @@ small-gives l t = record {
   positions = leb-true _ _ (search (and-left, and-right) depth 9);
 }
 
-small-from : (l : Lists) → Small l → small l ≡ true
+pub small-from : (l : Lists) → Small l → small l ≡ true
 unfolding small
 small-from l s =
     rw (
@@ -53,7 +53,7 @@ shaped-gives l t = record {
   positions = eqb-true _ _ (search (and-left, and-right) depth 9);
 }
 
-shaped-from : (l : Lists) → Shape l → shaped l ≡ true
+pub shaped-from : (l : Lists) → Shape l → shaped l ≡ true
 unfolding shaped
 shaped-from l s =
     rw (

@@ -29,7 +29,7 @@ use Rattle.midi_bars.specs.Bars.{rising-from, name-of, of-sound, in-bar,
 use Rattle.midi_bars.specs.Bars.{sounds-of, bars-of, positions-of, posting-of, term-of, given-of, lists-of}
 use Rattle.midi_bars.specs.Claims.{Hits-fine, Struck, Accepted, Read-fine}
 use Rattle.calls.proofs.Unflat.{total-joined}
-use Rattle.midi_bars.proofs.Shaped.{flat-shape, ends-count}
+use Rattle.calls.proofs.Shaped.{flat-shape, ends-count}
 use Rattle.midi_bars.proofs.Ranges.{range-gives, range-from, range-length, range-rising, kept-rising}
 use Rattle.midi_bars.proofs.Named.{name-text, name-before}
 use Rattle.midi_bars.proofs.Counted.{sum, bit, cells, sum-le, sum-kept, sum-append, sum-map, kept-length, few-cells}

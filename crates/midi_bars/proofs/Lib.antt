@@ -1,5 +1,4 @@
 -- Lowest first.
-pub mod Shaped
 pub mod Ranges
 pub mod Named
 pub mod Counted

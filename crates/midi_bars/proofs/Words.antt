@@ -30,7 +30,7 @@ use Rattle.midi_bars.specs.Imports.{import-file}
 use Rattle.midi_bars.specs.Words.{division, Plays}
 use Rattle.midi_bars.specs.Claims.{Hits-fine, Struck, Listed, Up-to-a-hit, Holds-file, Read-exactly, File-held, Import-accepted}
 use Rattle.midi_bars.specs.Claims.{Division-exactly}
-use Rattle.midi_bars.proofs.Shaped.{ends-count}
+use Rattle.calls.proofs.Shaped.{ends-count}
 use Rattle.midi_bars.proofs.Named.{name-one}
 use Rattle.midi_bars.proofs.Struck.{hits-held, stands-for}
 use Rattle.midi_bars.proofs.Fine.{accepted, read-fine, text-few}

@@ -23,7 +23,7 @@ use Rattle.midi_bars.specs.Bars.{rising-from, name-of, of-sound, in-bar, bar-co
 use Rattle.midi_bars.specs.Bars.{posting-of, term-of, given-of, lists-of}
 use Rattle.midi_bars.specs.Claims.{Hits-fine}
 use Rattle.midi_bars.proofs.Ranges.{range-gives, range-length}
-use Rattle.midi_bars.proofs.Shaped.{ends-count}
+use Rattle.calls.proofs.Shaped.{ends-count}
 use Rattle.midi_bars.proofs.Struck.{bar-gives, bar-some, bar-from, sounds-gives}
 use Rattle.midi_count.specs.Claims.{counted, Counts-right}
 use Rattle.midi_count.proofs.Sounding.{counting-right}

@@ -1,2 +1,4 @@
 -- What the call promises:
 pub mod Promise
+-- What only proofs need:
+pub mod Steps

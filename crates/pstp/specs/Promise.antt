@@ -17,6 +17,8 @@ use Rattle.segment.specs.declared.replies.Written.{Written}
 use Rattle.segment.specs.declared.replies.Written.the-variants as written
 use Rattle.segment.specs.declared.replies.Imported.{Imported}
 use Rattle.segment.specs.declared.replies.Imported.the-variants as imported
+use Rattle.segment.specs.declared.replies.BarRead.{BarRead}
+use Rattle.segment.specs.declared.replies.BarRead.the-variants as back
 use Rattle.pstp.specs.declared.reply.Reply.{Reply}
 
 abbrev pub accepted-four : (first second third fourth : ℕ) → Reply
@@ -61,6 +63,11 @@ written-reply (written.Refused x) = refused x
 abbrev pub imported-reply : Imported → Reply
 imported-reply (imported.Totals t) = accepted-four (t .documents) (t .terms) (t .postings) (t .positions)
 imported-reply (imported.Refused x) = refused x
+
+-- hits of a bar read back, and its length
+abbrev pub bar-read-reply : BarRead → Reply
+bar-read-reply (back.Bar hits len) = accepted hits len
+bar-read-reply (back.Refused x) = refused x
 
 -- A call behind the interface answered `a`, of which its promise holds; the reply is that answer's.
 pub record Replied {A : Type 0} (of : A → Reply) (Promise : A → Type 0) (r : Reply) : Type 0 where

@@ -9,10 +9,12 @@
 //   records        the writer over records
 //   midi           bars from MIDI files
 //   show           a bar on paper
+//   pad            a pad to record on
 // specs/Promise.antt says what a reply has for each answer; the promises are those of the calls behind.
 pub mod ask;
 pub mod handles;
 pub mod midi;
+pub mod pad;
 pub mod read;
 pub mod records;
 pub mod reply;

@@ -1,5 +1,6 @@
 // One reply for all calls: kind 0 is acceptance, with the answer's numbers; else the three numbers of a refusal.
 use segment::refusal::Refusal;
+use segment::replies::BarRead;
 use segment::replies::Counted;
 use segment::replies::DocFreq;
 use segment::replies::Imported;
@@ -9,7 +10,7 @@ use segment::replies::TermTotals;
 use segment::replies::Written;
 ghost use mathlib.Core.Path.{_≡_};
 ghost use Rattle.pstp.specs.Promise.{accepted, accepted-four, refused, opened-reply, length-reply, frequency-reply};
-ghost use Rattle.pstp.specs.Promise.{counted-reply, listed-reply, written-reply, imported-reply};
+ghost use Rattle.pstp.specs.Promise.{counted-reply, listed-reply, written-reply, imported-reply, bar-read-reply};
 
 // kind 0: accepted, and first to fourth have the answer's numbers, 0 where there are fewer. Else a refusal, and all four are 0.
 #[repr(C)]
@@ -133,5 +134,15 @@ pub fn of_imported(a: Imported) -> Reply
             t.positions as u64,
         ),
         Imported::Refused(x) => refuse(x),
+    }
+}
+
+// hits, length
+pub fn of_bar_read(a: BarRead) -> Reply
+    ensures { λ r. ⌜ r ≡ bar-read-reply a ⌝ }
+{
+    match a {
+        BarRead::Bar(hits, len) => accept(hits as u64, len as u64),
+        BarRead::Refused(x) => refuse(x),
     }
 }

@@ -30,7 +30,7 @@ ghost use Rattle.write_checks.specs.Steps.{measured};
 ghost use Rattle.write_check_all.specs.Steps.{terms-from, start-walk, Checkable, measured-lists};
 
 // The postings of a term. Their ids rise, so each document is looked for from the one before on (`near`): a hint, which affects speed only.
-fn measure_postings(
+pub fn measure_postings(
     ids: &[u32],
     lengths: &[u32],
     posting_ids: &[u32],

@@ -26,7 +26,7 @@ use Rattle.write_segment.proofs.Sets.{sets-comm, between-stored}
 use Rattle.write_check_all.proofs.Left.{lists-next}
 
 -- one more of a run, then one more of a run that lies before it
-beside : {a b out out₁ out₂ : List ℕ} {list end place next : ℕ} (xs ys : List ℕ)
+pub beside : {a b out out₁ out₂ : List ℕ} {list end place next : ℕ} (xs ys : List ℕ)
     → Stored a list out end out₁ → Stored b place out₁ next out₂ → place + length b ≤ end
     → sets (sets out₂ end xs) next ys ≡ sets (sets out list (a ++ xs)) place (b ++ ys)
 beside {a} {b} {out} {list = list} {place = place} xs ys s t h =

@@ -10,7 +10,7 @@ use lib.ListN.{length, drop, length-append}
 use lib.Seq.{sets, length-sets}
 use Rattle.crc32.specs.Crc32.{crc32Of}
 use Rattle.common.proofs.Sets.{sets-append, sets-front}
-use Rattle.segment.specs.Records.{Document, Term, between}
+use Rattle.segment.specs.Records.{Document, Term, Given, between}
 use Rattle.segment.specs.declared.refusal.Refusal.{Refusal}
 use Rattle.segment.specs.declared.checked.Checked.the-variants as check
 use Rattle.segment.specs.Refusals.{no-room}
@@ -203,20 +203,24 @@ module _ (l : Lists) (out : List ℕ) (at : Offsets) (room : Segment-room l out 
 
 -- ---- the call
 
+pub segment-size : (g : Given)
+    → length (segment-bytes g)
+    ≡ 72 + 32 * length (g .terms) + length (name-bytes (g .terms)) + length (metadata-bytes none (g .documents))
+    + length (lists-bytes (g .terms))
+unfolding segment-bytes
+segment-size g =
+    let ts = g .terms in
+    omega (
+      arith,
+      four-lengths (directory-bytes 0 0 ts) (name-bytes ts) (metadata-bytes none (g .documents)) (lists-bytes ts),
+      directory-length ts 0 0,
+    )
+
 pub segment-length : (l : Lists) → Shape l
     → length (segment-bytes (given l))
     ≡ 72 + 32 * length (l .ends) + length (l .text) + length (metadata-bytes none (given l .documents))
     + length (lists-bytes (given l .terms))
-unfolding segment-bytes
-segment-length l s =
-    let ts = given l .terms in
-    omega (
-      arith,
-      four-lengths (directory-bytes 0 0 ts) (name-bytes ts) (metadata-bytes none (given l .documents)) (lists-bytes ts),
-      directory-length ts 0 0,
-      terms-count l s,
-      ap length (text-is l s),
-    )
+segment-length l s = omega (arith, segment-size (given l), terms-count l s, ap length (text-is l s))
 
 module _ (l : Lists) (out : List ℕ) where
   pub wrote-refusal : {x : Refusal} → check.Refused x ≡ checked (check-lists l) → Wrote l out (written.Refused x) out

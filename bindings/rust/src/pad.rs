@@ -1,0 +1,162 @@
+//! A pad to record on.
+
+use std::fmt;
+
+use crate::flat::Names;
+use crate::room::front;
+use crate::sys;
+use crate::types::{DocId, TokenPos};
+use crate::Error;
+
+/// A hit of a bar. The order is that of a bar's hits: by sound, then step.
+#[derive(Clone, Copy, Debug, PartialEq, Eq, PartialOrd, Ord, Hash)]
+pub struct Hit {
+    /// The sound's number, 0 to 127.
+    pub sound: u8,
+    /// The step, below the bar's length.
+    pub step: TokenPos,
+}
+
+/// A bar as a pad holds it.
+#[derive(Clone, Debug, PartialEq, Eq)]
+pub struct Bar {
+    /// The number of steps.
+    pub length: u32,
+    /// The hits, strictly rising by sound, then step.
+    pub hits: Vec<Hit>,
+}
+
+/// A pad, which holds bars before they are written as a segment: a map from id to bar, of at most 256 bars with 8,192 hits in all.
+///
+/// Whatever was saved and erased before, a bar fits if the numbers of bars and hits allow it. A refused call changes nothing.
+///
+/// ```
+/// use pstp::{Hit, Pad, RawPositionalSegment};
+///
+/// let mut pad = Pad::new();
+/// pad.save(3, 16, &[Hit { sound: 36, step: 0 }, Hit { sound: 38, step: 1 }])?;
+/// pad.save(7, 16, &[Hit { sound: 36, step: 4 }])?;
+/// pad.erase(7)?;
+///
+/// let mut names = [""; Pad::SOUNDS];
+/// names[36] = "kick";
+/// names[38] = "snare";
+/// let bytes = pad.write(&names)?;
+/// let segment = RawPositionalSegment::open(&bytes)?;
+/// assert_eq!(segment.phrase_match_strs(&["kick", "snare"])?, [3]);
+/// # Ok::<(), pstp::Error>(())
+/// ```
+#[derive(Clone)]
+pub struct Pad {
+    /// Always a pad, never broken: `from_words` tests it, and every call keeps it one.
+    words: Box<[u32]>,
+}
+
+impl Pad {
+    /// Words of a pad.
+    pub const WORDS: usize = 17_154;
+    /// Bars that a pad can hold.
+    pub const BARS: usize = 256;
+    /// Hits that all bars of a pad can have together.
+    pub const HITS: usize = 8_192;
+    /// Sounds, each with a name when the pad is written.
+    pub const SOUNDS: usize = 128;
+
+    /// An empty pad.
+    pub fn new() -> Self {
+        Self {
+            words: vec![0; Self::WORDS].into(),
+        }
+    }
+
+    /// Save a bar under an id that is not held.
+    ///
+    /// The hits rise strictly by sound, then step, which is what sorting them and leaving out equal ones does. A bar may have no hits, and
+    /// any id and length.
+    ///
+    /// The first that holds is the error: [`Error::AlreadyHeld`]; [`Error::TooLarge`] for over 16,777,216 hits, then for a sound above 127;
+    /// [`Error::InvalidLayout`] for hits that do not rise, then for a step that is not below the length; [`Error::PadFull`].
+    pub fn save(&mut self, id: DocId, length: u32, hits: &[Hit]) -> Result<(), Error> {
+        let (sounds, steps): (Vec<_>, Vec<_>) =
+            hits.iter().map(|hit| (hit.sound, hit.step)).unzip();
+        sys::pad_save(&mut self.words, id, length, &sounds, &steps).answer()?;
+        Ok(())
+    }
+
+    /// Erase a bar and return how many hits it had; its room serves the next. An id that is not held is [`Error::UnknownBar`].
+    pub fn erase(&mut self, id: DocId) -> Result<usize, Error> {
+        let (hits, _) = sys::pad_erase(&mut self.words, id).answer()?;
+        Ok(hits as usize)
+    }
+
+    /// Return a bar as it was saved. An id that is not held is [`Error::UnknownBar`].
+    pub fn read(&self, id: DocId) -> Result<Bar, Error> {
+        // No bar has more hits than all, so one call suffices.
+        let mut sounds = vec![0; self.hits_held()];
+        let mut steps = vec![0; self.hits_held()];
+        let (hits, length) = sys::pad_read(&self.words, id, &mut sounds, &mut steps).answer()?;
+        let hits = sounds.into_iter().zip(steps).take(hits as usize);
+        Ok(Bar {
+            length: length as u32,
+            hits: hits.map(|(sound, step)| Hit { sound, step }).collect(),
+        })
+    }
+
+    /// Write the pad as a segment: what [`write_positional_segment`](crate::write_positional_segment) makes of the bars by rising id and
+    /// the sounds by rising number. Sounds without hits are left out.
+    ///
+    /// The names are those of the sounds by number. Of sounds without hits they may be anything, such as empty; the others are not empty
+    /// and rise strictly in byte order, or the error is [`Error::InvalidLayout`]. All names together have at most 16,777,216 bytes, or it
+    /// is [`Error::TooLarge`].
+    pub fn write(&self, names: &[&str; Self::SOUNDS]) -> Result<Vec<u8>, Error> {
+        let names = Names::of(names)?;
+        let mut bytes = vec![0; self.most_bytes(&names)];
+        let (len, _) = sys::pad_write(&self.words, &names, &mut bytes).answer()?;
+        Ok(front(bytes, len))
+    }
+
+    /// Return the pad's words, to store them. `include/pstp.h` of the repository describes them.
+    pub fn as_words(&self) -> &[u32] {
+        &self.words
+    }
+
+    /// Take up a pad by its words. Words that no pad can have, or another number of them, are [`Error::BrokenPad`].
+    pub fn from_words(words: &[u32]) -> Result<Self, Error> {
+        // Every call tests the words before all else, and this one changes nothing.
+        match sys::pad_read(words, 0, &mut [], &mut []).answer() {
+            Err(Error::BrokenPad) => Err(Error::BrokenPad),
+            _ => Ok(Self {
+                words: words.into(),
+            }),
+        }
+    }
+
+    fn bars_held(&self) -> usize {
+        self.words[0] as usize
+    }
+
+    fn hits_held(&self) -> usize {
+        self.words[1] as usize
+    }
+
+    /// No segment of this pad is longer: a stored number has at most five bytes, a bar two of them, a hit at most three.
+    fn most_bytes(&self, names: &Names) -> usize {
+        let (bars, hits) = (self.bars_held(), self.hits_held());
+        72 + 32 * hits.min(Self::SOUNDS) + names.text.len() + 10 * bars + 15 * hits
+    }
+}
+
+impl Default for Pad {
+    fn default() -> Self {
+        Self::new()
+    }
+}
+
+impl fmt::Debug for Pad {
+    fn fmt(&self, f: &mut fmt::Formatter<'_>) -> fmt::Result {
+        f.debug_struct("Pad")
+            .field("bars", &self.bars_held())
+            .field("hits", &self.hits_held())
+            .finish_non_exhaustive()
+    }
+}

@@ -1,0 +1,258 @@
+/* Words that are no pad: 20 in all four calls, before whatever else is wrong, and nothing is changed. */
+#define _DEFAULT_SOURCE
+#include "build.h"
+#include "check.h"
+#include "guarded.h"
+
+#include <string.h>
+#include <sys/mman.h>
+
+#define MOST 4294967295u
+
+enum { LIMIT = 16777216 };
+
+/* Bars 3, 7 and 9: id, length, number of hits, hits. */
+static const uint32_t three_bars[] = {
+    3, 8, /* bars, hits */
+    3, 16, 5, 36, 0, 36, 4, 36, 15, 38, 8, 38, 14, /* from word 2 on */
+    7, 16, 3, 36, 2, 38, 3, 38, 4, /* from word 15 on */
+    9, 0, 0, /* from word 24 on */
+};
+enum { THREE = sizeof three_bars / sizeof three_bars[0] };
+
+/* Some words of the three bars changed; what lies behind them is free, and is tried as zeros and as the largest words. */
+static const struct broken {
+    const char *note;
+    struct {
+        uint32_t at, word;
+    } change[8];
+} broken[] = {
+    /* More than its two limits. */
+    {"257 bars", {{0, 257}}},
+    {"2^31 bars", {{0, 2147483648u}}},
+    {"the most bars", {{0, MOST}}},
+    {"256 bars, most of them of no words", {{0, 256}}},
+    {"8,193 hits", {{1, 8193}}},
+    {"the most hits", {{1, MOST}}},
+    {"2^32 - 8 hits", {{1, MOST - 7}}},
+
+    /* A number of hits that is not that of the bars: hits of no bar's, or in places the pad does not have. */
+    {"a hit too few", {{1, 7}}},
+    {"a hit too many", {{1, 9}}},
+    {"no hits", {{1, 0}}},
+    {"hits of no bar's", {{0, 1}}},
+    {"hits and no bar", {{0, 0}}},
+    {"a bar with a hit more", {{26, 1}}},
+    {"a bar with a hit more, which is another bar's", {{4, 6}, {1, 9}}},
+    {"a bar with a hit less", {{4, 4}}},
+    {"a bar without its hits", {{17, 0}}},
+    {"a bar of the most hits", {{4, MOST}}},
+    {"a bar whose words are 0 modulo 2^32", {{4, 2147483648u}}},
+    {"a bar whose words are 2 less modulo 2^32", {{17, 2147483647u}}},
+    {"counts that add up modulo 2^32 only", {{17, MOST}, {26, 4}}},
+    {"two counts that add up modulo 2^32 only", {{4, MOST - 7}, {17, 16}}},
+    {"the last count too large by 2^31", {{26, 2147483648u}}},
+    {"a last bar that runs over the end", {{26, 8192}, {1, 8192}}},
+    {"a last bar that runs over the end, with a wrong total", {{26, 17000}, {1, 17008}}},
+
+    /* An id twice, or ids in another order than a pad has them. */
+    {"an id twice", {{15, 3}}},
+    {"the last id twice", {{24, 7}}},
+    {"an id twice, not side by side", {{24, 3}}},
+    {"ids that fall", {{2, 8}}},
+    {"a last id that falls", {{24, 0}}},
+    {"a fourth bar of zeros", {{0, 4}}},
+    {"an id twice among bars without hits", {{0, 5}, {27, 10}, {28, 1}, {29, 0}, {30, 10}, {31, 1}, {32, 0}}},
+
+    /* A bar whose hits break the rules for saving. */
+    {"a sound above 127", {{20, 128}}},
+    {"a last sound above 127", {{13, 128}}},
+    {"a sound that is 38 modulo 256", {{22, 294}}},
+    {"the largest sound", {{22, MOST}}},
+    {"equal hits", {{8, 0}}},
+    {"a smaller step of a sound", {{10, 3}}},
+    {"a smaller sound", {{11, 35}}},
+    {"an equal last hit", {{23, 3}}},
+    {"a step of the length", {{19, 16}}},
+    {"a step above the length", {{14, 17}}},
+    {"the largest step", {{14, MOST}}},
+    {"a length that is a step", {{3, 15}}},
+    {"a length of 0 with hits", {{16, 0}}},
+};
+
+static uint32_t before[PSTP_PAD_WORDS + 1];
+static const uint8_t *long_bytes; /* one more than a list may have */
+static const uint32_t *long_words;
+
+/* 20 to every call on these words, with nothing else wrong and with each other refusal beside it. */
+static void expect_broken(const char *note, uint32_t *pad, size_t len) {
+    const uint8_t sounds[] = {5, 128}, text[] = {'a', 0xFF};
+    const uint32_t steps[] = {0, 99};
+    struct lent places = lent();
+    struct bytes out = lent_bytes();
+    uint8_t back[16];
+    uint32_t rising[PSTP_PAD_SOUNDS + 1], falling[PSTP_PAD_SOUNDS];
+    pstp_reply want = refused(PSTP_BROKEN_PAD, 0, 0);
+    for (uint32_t i = 0; i <= PSTP_PAD_SOUNDS; i++) {
+        rising[i] = i < 36 ? 0 : i < 38 ? 1 : 2;
+        falling[i % PSTP_PAD_SOUNDS] = i < 64 ? 2 : 0;
+    }
+    memset(back, 0x5A, sizeof back);
+    watch(note);
+    for (uint32_t id = 2; id <= 9; id++) {
+        expect_reply(note, pstp_pad_save(pad, len, id, 4, sounds, 1, steps, 1), want);
+        expect_reply(note, pstp_pad_save(pad, len, id, 4, sounds, 0, steps, 0), want);
+        expect_reply(note, pstp_pad_save(pad, len, id, 4, sounds, 2, steps, 2), want);
+        expect_reply(note, pstp_pad_save(pad, len, id, 4, sounds, 1, steps, 2), want);
+        expect_reply(note, pstp_pad_save(pad, len, id, 4, long_bytes, LIMIT + 1, steps, 1), want);
+        expect_reply(note, pstp_pad_save(pad, len, id, 4, long_bytes, LIMIT + 1, long_words, LIMIT + 1), want);
+        expect_reply(note, pstp_pad_erase(pad, len, id), want);
+        expect_reply(note, pstp_pad_read(pad, len, id, back, sizeof back, places.place, ROOM), want);
+        expect_reply(note, pstp_pad_read(pad, len, id, back, 0, places.place, ROOM), want);
+        expect_reply(note, pstp_pad_read(pad, len, id, back, sizeof back, places.place, 0), want);
+    }
+    expect_reply(note, pstp_pad_write(pad, len, text, 1, rising, PSTP_PAD_SOUNDS, out.at, sizeof out.at), want);
+    expect_reply(note, pstp_pad_write(pad, len, text, 2, rising, PSTP_PAD_SOUNDS, out.at, sizeof out.at), want);
+    expect_reply(note, pstp_pad_write(pad, len, text, 2, rising, PSTP_PAD_SOUNDS, out.at, 0), want);
+    expect_reply(note, pstp_pad_write(pad, len, text, 2, falling, PSTP_PAD_SOUNDS, out.at, sizeof out.at), want);
+    expect_reply(note, pstp_pad_write(pad, len, text, 2, rising, PSTP_PAD_SOUNDS + 1, out.at, sizeof out.at), want);
+    expect_reply(note, pstp_pad_write(pad, len, text, 0, rising, 0, out.at, sizeof out.at), want);
+    expect_reply(note, pstp_pad_write(pad, len, long_bytes, LIMIT + 1, rising, PSTP_PAD_SOUNDS, out.at, 0), want);
+    expect_reply(note, pstp_pad_write(pad, len, text, 2, long_words, LIMIT + 1, out.at, 0), want);
+    expect_filled(note, &places, nowhere, 0);
+    expect_written(note, &out, &out, 0);
+    expect(note, back[0] == 0x5A && memcmp(back, back + 1, sizeof back - 1) == 0);
+}
+
+/* The words so far made, at both edges of their memory, and that they stay. */
+static void expect_words_broken(const char *note, size_t len) {
+    for (int at_end = 0; at_end <= 1; at_end++) {
+        uint32_t *pad = guarded(0, at_end, before, len * sizeof before[0]);
+        expect_broken(note, pad, len);
+        expect(note, memcmp(pad, before, len * sizeof before[0]) == 0);
+    }
+}
+
+static void lay_three_bars(uint32_t behind) {
+    for (size_t i = 0; i < sizeof before / sizeof before[0]; i++) {
+        before[i] = i < THREE ? three_bars[i] : behind;
+    }
+}
+
+/* Each of these words is a pad: nothing but what the table above names is refused. */
+static void test_whole(void) {
+    uint8_t sounds[8];
+    uint32_t steps[8];
+    lay_three_bars(MOST);
+    expect_reply("bar 3", pstp_pad_read(before, PSTP_PAD_WORDS, 3, sounds, 8, steps, 8), accepted(5, 16));
+    expect_reply("bar 9", pstp_pad_read(before, PSTP_PAD_WORDS, 9, sounds, 0, steps, 0), accepted(0, 0));
+    before[0] = 2;
+    expect_reply("two bars: bar 7", pstp_pad_read(before, PSTP_PAD_WORDS, 7, sounds, 8, steps, 8), accepted(3, 16));
+    expect_reply("two bars: bar 9", pstp_pad_read(before, PSTP_PAD_WORDS, 9, sounds, 8, steps, 8), refused(PSTP_UNKNOWN_BAR, 0, 0));
+    before[0] = 3;
+    before[24] = MOST;
+    before[25] = MOST;
+    expect_reply("the last id", pstp_pad_read(before, PSTP_PAD_WORDS, MOST, sounds, 0, steps, 0), accepted(0, MOST));
+    before[22] = 127;
+    expect_reply("sound 127", pstp_pad_read(before, PSTP_PAD_WORDS, 7, sounds, 8, steps, 8), accepted(3, 16));
+    expect("sound 127", sounds[2] == 127);
+}
+
+/* Bars and hits that are laid out well, but one too many. */
+static void test_over_the_limits(void) {
+    for (uint32_t bars = 256; bars <= 257; bars++) {
+        memset(before, 0, sizeof before);
+        before[0] = bars;
+        for (uint32_t i = 0; i < bars; i++) {
+            before[2 + 3 * i] = i;
+        }
+        if (bars == 257) {
+            expect_words_broken("257 bars without hits", PSTP_PAD_WORDS);
+        } else {
+            expect_reply("256 bars", pstp_pad_read(before, PSTP_PAD_WORDS, 255, no_bytes, 0, nowhere, 0), accepted(0, 0));
+        }
+    }
+    for (uint32_t hits = 8192; hits <= 8193; hits++) {
+        memset(before, 0, sizeof before);
+        before[0] = 1;
+        before[1] = before[4] = hits;
+        before[2] = 5;
+        before[3] = hits;
+        for (uint32_t i = 0; i < hits; i++) {
+            before[6 + 2 * i] = i;
+        }
+        if (hits == 8193) {
+            expect_words_broken("8,193 hits in a bar", PSTP_PAD_WORDS);
+            before[1] = 8192;
+            expect_words_broken("8,193 hits in a bar, 8,192 in all", PSTP_PAD_WORDS);
+        } else {
+            expect_reply("8,192 hits", pstp_pad_read(before, PSTP_PAD_WORDS, 5, no_bytes, 0, nowhere, 0), refused(PSTP_NO_ROOM, 1, 8192));
+        }
+    }
+}
+
+/* Well-formed hits up to the last word, of a bar that says it has more. */
+static void test_over_the_end(void) {
+    static const uint32_t counts[] = {8574, 8575, 20000, 2147483648u, MOST};
+    memset(before, 0, sizeof before);
+    before[0] = 1;
+    before[1] = 8192;
+    before[3] = MOST;
+    for (size_t i = 6; i < PSTP_PAD_WORDS; i += 2) {
+        before[i] = (uint32_t)i;
+    }
+    for (size_t i = 0; i < sizeof counts / sizeof counts[0]; i++) {
+        before[4] = counts[i];
+        expect_words_broken("a bar that runs over the end", PSTP_PAD_WORDS);
+    }
+}
+
+/* A slice of another length is no pad, whatever it holds: a pad at its front, or zeros. */
+static void test_lengths(void) {
+    static const size_t lengths[] = {0, 1, 2, 3, 5, 27, 17152, 17153, 17155};
+    for (int zeros = 0; zeros <= 1; zeros++) {
+        lay_three_bars(0);
+        if (zeros) {
+            memset(before, 0, sizeof before);
+        }
+        for (size_t i = 0; i < sizeof lengths / sizeof lengths[0]; i++) {
+            expect_words_broken("another number of words", lengths[i]);
+        }
+        /* A length that is a pad's modulo 2^32. Of all these words only the first can be touched. */
+        size_t len = ((size_t)1 << 32) + PSTP_PAD_WORDS;
+        uint32_t *pad = mmap(NULL, len * sizeof *pad, PROT_NONE, MAP_PRIVATE | MAP_ANONYMOUS | MAP_NORESERVE, -1, 0);
+        if (pad == MAP_FAILED || mprotect(pad, 4096 * 17, PROT_READ | PROT_WRITE) != 0) {
+            expect("a long slice is there", false);
+            return;
+        }
+        memcpy(pad, before, PSTP_PAD_WORDS * sizeof *pad);
+        expect_broken("2^32 words more", pad, len);
+        expect("2^32 words more", memcmp(pad, before, PSTP_PAD_WORDS * sizeof *pad) == 0);
+        munmap(pad, len * sizeof *pad);
+    }
+}
+
+static void test_broken(const struct broken *row, uint32_t behind) {
+    lay_three_bars(behind);
+    for (size_t k = 0; k < 8; k++) {
+        if (k == 0 || row->change[k].at != 0) {
+            before[row->change[k].at] = row->change[k].word;
+        }
+    }
+    expect_words_broken(row->note, PSTP_PAD_WORDS);
+}
+
+void test_pad_broken(void) {
+    void *untouched = mmap(NULL, 5 * (size_t)LIMIT, PROT_READ, MAP_PRIVATE | MAP_ANONYMOUS | MAP_NORESERVE, -1, 0);
+    long_bytes = untouched;
+    long_words = untouched;
+    for (size_t i = 0; i < sizeof broken / sizeof broken[0]; i++) {
+        test_broken(&broken[i], 0);
+        test_broken(&broken[i], MOST);
+    }
+    test_whole();
+    test_over_the_limits();
+    test_over_the_end();
+    test_lengths();
+    munmap(untouched, 5 * (size_t)LIMIT);
+}
