@@ -1,8 +1,9 @@
--- Worked cases, each with its digits; the first five files are what they share:
+-- Worked cases, each with its digits; the first six files are what they share:
 pub mod Segments
 pub mod Sealing
 pub mod Printed
 pub mod Midi-made
+pub mod Pad-made
 pub mod Through
 pub mod Asked
 pub mod Checksums
@@ -25,6 +26,11 @@ pub mod Midi-refusals
 pub mod Near-misses
 pub mod Not-written
 pub mod Numbers
+pub mod Pad-broken
+pub mod Pad-full
+pub mod Pad-recorded
+pub mod Pad-refusals
+pub mod Pad-written
 pub mod Question-order
 pub mod Ranked
 pub mod Refusals

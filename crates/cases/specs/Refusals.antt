@@ -11,7 +11,8 @@ use Rattle.segment.specs.Refusals.{directory-length-mismatch, empty-term, non-i
 use Rattle.segment.specs.Refusals.{non-increasing-posting-id, unknown-document, empty-position-list, non-increasing-position}
 use Rattle.segment.specs.Refusals.{position-exceeds-length, trailing-posting-bytes, document-lengths-not-increasing, terms-not-increasing}
 use Rattle.segment.specs.Refusals.{posting-id-gap-underflow, posting-ids-not-increasing, position-gap-underflow, positions-not-increasing}
-use Rattle.segment.specs.Refusals.{written-position-exceeds-length, midi-file, bar-too-far, unknown-bar, bar-too-long}
+use Rattle.segment.specs.Refusals.{written-position-exceeds-length, midi-file, bar-too-far, unknown-bar, bar-too-long, already-held}
+use Rattle.segment.specs.Refusals.{pad-full, broken-pad}
 
 -- 1 header, 2 term directory, 3 term bytes, 4 document metadata, 5 postings, 6 term postings
 sections : header ∷ term-directory ∷ term-bytes ∷ document-metadata ∷ postings ∷ term-postings ∷ [] ≡ 1 ∷ 2 ∷ 3 ∷ 4 ∷ 5 ∷ 6 ∷ []
@@ -110,3 +111,15 @@ kind-16 = refl
 -- 17 a bar longer than 64 steps
 kind-17 : bar-too-long ≡ record { kind = 17; which = 0; index = 0 }
 kind-17 = refl
+
+-- 18 an id that a pad holds already
+kind-18 : already-held ≡ record { kind = 18; which = 0; index = 0 }
+kind-18 = refl
+
+-- 19 a pad that is full
+kind-19 : pad-full ≡ record { kind = 19; which = 0; index = 0 }
+kind-19 = refl
+
+-- 20 words that are no pad
+kind-20 : broken-pad ≡ record { kind = 20; which = 0; index = 0 }
+kind-20 = refl

@@ -9,8 +9,10 @@ use Rattle.segment.specs.declared.replies.DocFreq.the-variants as frequency
 use Rattle.segment.specs.declared.replies.TermTotals.the-variants as listed
 use Rattle.segment.specs.declared.replies.Written.the-variants as written
 use Rattle.segment.specs.declared.replies.Imported.the-variants as imported
+use Rattle.segment.specs.declared.replies.BarRead.the-variants as back
 use Rattle.pstp.specs.declared.reply.Reply.{Reply}
 use Rattle.pstp.specs.Promise.{opened-reply, length-reply, frequency-reply, counted-reply, listed-reply, written-reply, imported-reply}
+use Rattle.pstp.specs.Promise.{bar-read-reply}
 
 abbrev reply : (kind which index first second third fourth : ℕ) → Reply
 reply k w i a b c d = record { kind = k; which = w; index = i; first = a; second = b; third = c; fourth = d }
@@ -51,6 +53,10 @@ of-written = refl
 of-imported : imported-reply (imported.Totals (record { documents = 2; terms = 3; postings = 4; positions = 6 })) ≡ reply 0 0 0 2 3 4 6
 of-imported = refl
 
+-- hits first, the length second. Fails: the two exchanged
+of-bar-read : bar-read-reply (back.Bar 5 16) ≡ reply 0 0 0 5 16 0 0
+of-bar-read = refl
+
 -- a refusal has its three numbers, and zeros. Fails: which and index exchanged, kind 0 for a refusal
 opened-refused : opened-reply (opened.Refused some-refusal) ≡ reply 13 2 5 0 0 0 0
 opened-refused = refl
@@ -72,3 +78,6 @@ written-refused = refl
 
 imported-refused : imported-reply (imported.Refused some-refusal) ≡ reply 13 2 5 0 0 0 0
 imported-refused = refl
+
+bar-read-refused : bar-read-reply (back.Refused some-refusal) ≡ reply 13 2 5 0 0 0 0
+bar-read-refused = refl

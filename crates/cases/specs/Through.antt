@@ -37,6 +37,13 @@ use Rattle.midi_read.specs.Files as midi
 use Rattle.midi_bars.specs.Bars.{rising-from, bar-count, sounds-of, bars-of, given-of, lists-of}
 use Rattle.midi_bars.specs.Bars as bars
 use Rattle.midi_bars.specs.Imports.{import-file, import-into, roomy-all}
+use Rattle.pad_map.specs.Bars.{lookup, insert, without}
+use Rattle.pad_map.specs.Rules.{before, hit-fine, hits-fine, all-up-to, hits-rise, all-below, check-hits}
+use Rattle.pad_map.specs.Acts as pad
+use Rattle.pad_words.specs.Words.{bar-words, stored, hits-of, held}
+use Rattle.pad_words.specs.Words as pad-words
+use Rattle.pad_words.specs.Whole.{bars-fine, whole}
+use Rattle.pad_words.specs.Calls.{held-bars, pad-save, pad-erase, pad-read, pad-write}
 
 unfoldable pub numbers : Unit {0}
 unfolding uleb128 encoded chunks
@@ -129,3 +136,15 @@ hearing = tt
 unfoldable pub importing : Unit {0}
 unfolding hearing some-of kept rising-from bar-count sounds-of bars-of bars.positions-of given-of lists-of laid-flat roomy-all
 importing = tt
+
+unfoldable pub mapping : Unit {0}
+unfolding lookup insert without before all-up-to hits-rise all-below check-hits pad.save pad.read
+mapping = tt
+
+unfoldable pub recording : Unit {0}
+unfolding mapping hit-fine hits-fine bars-fine whole hits-of pad-words.bars-of held bar-words stored held-bars pad-save pad-erase pad-read
+recording = tt
+
+unfoldable pub writing-out : Unit {0}
+unfolding recording writing kept pad.steps-of pad.postings-of pad.terms-of pad.given-of laid-flat pad.write-out pad-write
+writing-out = tt
