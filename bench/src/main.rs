@@ -8,10 +8,12 @@
 //!   bench midi                         bars from MIDI files
 //!   bench sheet                        a bar on paper
 //!   bench ranked [--quick]             the best bars first
+//!   bench pad                          a pad to record on
 //!   bench checksum                     bytes a second
 //!   bench stack                        the stack of every call
 //! Read in this order: data, calls, library, drawn, counted, originals, measure, compare, checksum, limits, plain, midi, sheet, stack,
-//! report, text; then words, handles, fts5, often, growth, report_often; then ranked, orders, report_ranked.
+//! report, text; then words, handles, fts5, often, growth, report_often; then ranked, orders, report_ranked; then plain_pad, pad,
+//! report_pad.
 mod again;
 mod calls;
 mod checksum;
@@ -33,10 +35,13 @@ mod midi;
 mod often;
 mod orders;
 mod originals;
+mod pad;
 mod plain;
+mod plain_pad;
 mod ranked;
 mod report;
 mod report_often;
+mod report_pad;
 mod report_ranked;
 mod sheet;
 mod stack;
@@ -81,7 +86,7 @@ fn depths() -> Vec<(String, Vec<usize>)> {
         black_box(library::midi_bars(&file, &mut lists));
     });
     let others = [("open_once", once), ("check", check), ("write", written), ("midi_bars", imported)];
-    all.extend(others.map(|(name, depth)| (name.to_string(), vec![depth])));
+    all.extend(others.into_iter().chain(pad::depths()).map(|(name, depth)| (name.to_string(), vec![depth])));
     all
 }
 
@@ -124,6 +129,7 @@ fn main() {
             let quick = !how.is_empty();
             return report_ranked::section(&ranked::all(&ranked::sizes(quick)), &orders::all(&orders::sizes(quick)));
         }
+        [only] if only == "pad" => return report_pad::section(&pad::all(15)),
         [only, how @ ..] if only == "often" => {
             let sizes = often::all(!how.is_empty());
             return report_often::section(&sizes, &growth::all(&sizes, !how.is_empty()));
@@ -151,6 +157,8 @@ fn main() {
 
     let ranked = ranked::all(&ranked::sizes(quick));
     let orders = orders::all(&orders::sizes(quick));
+
+    let pads = pad::all(if quick { 5 } else { 15 });
 
     let checksums = checksum::all(&[4096, if quick { 1 << 20 } else { 1 << 24 }], if quick { 5 } else { 15 });
 
@@ -184,6 +192,8 @@ fn main() {
     report::sheets(&scattered);
     println!("\n## Best bars first\n");
     report_ranked::section(&ranked, &orders);
+    println!("\n## A pad to record on\n");
+    report_pad::section(&pads);
     println!("\n## Stack and code\n\n{}", text::STACK);
     report::stack(&depths());
     println!("\nThe library's machine code has {} bytes, its constants {}.", report::grouped(code), report::grouped(constants));

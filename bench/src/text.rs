@@ -147,7 +147,25 @@ pub const ORDERS_AIM: &str = "\
 No quadratic case: from one number of bars to ten times as many, the nanoseconds a bar at most double. The largest factor of all:
 ";
 
+pub const PAD: &str = "\
+The calls on a pad have no original. Beside them runs a plain map in Rust (`bench/src/plain_pad.rs`): a `BTreeMap` from id to bar, with a
+vector of hits each and the same rules for saving. It is kept from call to call and trusts itself. The library is given 17,154 words that
+may be anything, and every call first looks at all that they hold, for 20: that is the last row of each size, a save whose id is held, and
+most of the others. So the map also runs as a program would use it that has to keep its pad in such words: read from them and checked in
+each call, and put back by a call that changes it. Bars of 64 steps with hits of any sounds, ids 3 apart; the first bar is the one with
+most bars behind it to be moved. Replies, words and what was read back were compared first.
+";
+
+pub const PAD_WRITTEN: &str = "\
+Writing out, beside the Rust's own writer from the map that is kept: the map's lists are made, then written, and all is dropped. The bytes
+were compared first, and afterwards again.
+";
+
+pub const PAD_AIM: &str = "\
+A save or a reading back of a full pad in well under a millisecond:
+";
+
 pub const STACK: &str = "\
-The library allocates nothing. What a call touches of the stack, measured on a painted one, over 1,000 documents, and over a MIDI file of
-65,536 bytes with hits of all notes; in the last two columns with a handle. Bytes:
+The library allocates nothing. What a call touches of the stack, measured on a painted one, over 1,000 documents, over a MIDI file of
+65,536 bytes with hits of all notes, and over a full pad; in the last two columns with a handle. Bytes:
 ";

@@ -1,4 +1,5 @@
 //! Runs the library beside the Rust. README.md says what is compared; read in this order:
+//!   options                  what the program is asked to do
 //!   case, reply, numbers     a call, its reply, document 01's numbers for the Rust's errors
 //!   library, lent            the library through the C interface, with buffers whose every place is watched
 //!   rust, words              the oracle's answer: the Rust's, and what document 01 adds to it
@@ -8,8 +9,8 @@
 //!   bars, worked, corners, patterns, strings, large    document 01's cases, whole small spaces, limits
 //!   show, shrink, reshape, sample                      a case as text, made smaller, and as a record of the replay list
 //!   handle                   a segment checked once and asked often: every call above with handles, and any handle with any bytes
-//!   midi, sheet, ranked      bars from MIDI files, a bar on paper and the best bars first, which the Rust does not have, beside models
-//!                            from document 02's words
+//!   midi, sheet, ranked, pad bars from MIDI files, a bar on paper, the best bars first and a pad to record on, which the Rust does not
+//!                            have, beside models from document 02's words
 
 mod bars;
 mod case;
@@ -24,6 +25,8 @@ mod library;
 mod make;
 mod midi;
 mod numbers;
+mod options;
+mod pad;
 mod parts;
 mod patterns;
 mod questions;
@@ -47,88 +50,12 @@ mod worked;
 use compare::{found, opened, Runner};
 use handle::Any;
 use midi::Midi;
+use options::{options, Options};
+use pad::Pads;
 use random::Random;
 use sample::Sample;
-use std::path::PathBuf;
 use std::process::ExitCode;
 use std::time::Instant;
-
-struct Options {
-    seed: u64,
-    calls: u64,
-    home: PathBuf,
-    whole: bool,
-    uneven: bool,
-    sample: Option<String>,
-    case: Option<String>,
-    only_midi: bool,
-    midi_files: u64,
-    midi_sample: Option<String>,
-    midi_case: Option<String>,
-    only_sheets: bool,
-    sheets: u64,
-    sheet_case: Option<String>,
-    only_ranked: bool,
-    ranked: u64,
-    ranked_case: Option<String>,
-    only_handles: bool,
-    handles: u64,
-    handle_case: Option<String>,
-}
-
-fn options() -> Result<Options, String> {
-    let mut options = Options {
-        seed: 1,
-        calls: 2_000_000,
-        home: ".".into(),
-        whole: false,
-        uneven: false,
-        sample: None,
-        case: None,
-        only_midi: false,
-        midi_files: 500_000,
-        midi_sample: None,
-        midi_case: None,
-        only_sheets: false,
-        sheets: 500_000,
-        sheet_case: None,
-        only_ranked: false,
-        ranked: 500_000,
-        ranked_case: None,
-        only_handles: false,
-        handles: 1_000_000,
-        handle_case: None,
-    };
-    let mut words = std::env::args().skip(1);
-    while let Some(word) = words.next() {
-        let mut value = || words.next().ok_or(format!("{word} wants a value"));
-        let number = |text: String| text.parse().map_err(|_| format!("{text} is not a number"));
-        match word.as_str() {
-            "--seed" => options.seed = number(value()?)?,
-            "--calls" => options.calls = number(value()?)?,
-            "--home" => options.home = value()?.into(),
-            "--whole" => options.whole = true,
-            "--uneven" => options.uneven = true,
-            "--sample" => options.sample = Some(value()?),
-            "--case" => options.case = Some(value()?),
-            "--only-midi" => options.only_midi = true,
-            "--midi-files" => options.midi_files = number(value()?)?,
-            "--midi-sample" => options.midi_sample = Some(value()?),
-            "--midi-case" => options.midi_case = Some(value()?),
-            "--only-sheets" => options.only_sheets = true,
-            "--sheets" => options.sheets = number(value()?)?,
-            "--sheet-case" => options.sheet_case = Some(value()?),
-            "--only-ranked" => options.only_ranked = true,
-            "--ranked" => options.ranked = number(value()?)?,
-            "--ranked-case" => options.ranked_case = Some(value()?),
-            "--only-handles" => options.only_handles = true,
-            "--handles" => options.handles = number(value()?)?,
-            "--handle-case" => options.handle_case = Some(value()?),
-            _ => return Err(format!("unknown option {word}")),
-        }
-    }
-    Ok(options)
-}
 
 /// Tries one pasted case.
 fn one_case(line: &str) -> ExitCode {
@@ -206,7 +133,8 @@ fn conclude(runner: &mut Runner) {
 
 fn compared(options: &Options) -> std::io::Result<ExitCode> {
     let mut runner = Runner::new(options.sample.is_some().then(Sample::new), options.seed);
-    let all = !options.only_midi && !options.only_sheets && !options.only_ranked && !options.only_handles;
+    let only = [options.only_midi, options.only_sheets, options.only_ranked, options.only_pads, options.only_handles];
+    let all = !only.contains(&true);
     if all {
         beside_the_rust(&mut runner, options);
     }
@@ -222,6 +150,10 @@ fn compared(options: &Options) -> std::io::Result<ExitCode> {
     }
     if all || options.only_ranked {
         ranked::all(&mut runner.ranked, options.seed, options.ranked, options.whole);
+    }
+    let mut pads = Pads::new();
+    if all || options.only_pads {
+        pad::all(&mut pads, &mut runner, options.seed, options.pads, options.whole);
     }
     let mut any = Any::new();
     if all || options.only_handles {
@@ -248,13 +180,15 @@ fn compared(options: &Options) -> std::io::Result<ExitCode> {
     if all || options.only_ranked {
         runner.ranked.tally.print();
     }
+    let missed = if all || options.only_pads { pads.tally.print() } else { 0 };
     conclude(&mut runner);
     midi::conclude(&mut midi);
     sheet::conclude(&mut runner.sheets);
     ranked::conclude(&mut runner.ranked);
+    pad::conclude(&mut pads);
     handle::conclude(&mut any);
-    let beyond = midi.differences + runner.sheets.differences + runner.ranked.differences + any.differences;
-    Ok(if runner.differences + beyond == 0 { ExitCode::SUCCESS } else { ExitCode::FAILURE })
+    let beyond = midi.differences + runner.sheets.differences + runner.ranked.differences + pads.differences + any.differences;
+    Ok(if runner.differences + beyond == 0 && missed == 0 { ExitCode::SUCCESS } else { ExitCode::FAILURE })
 }
 
 fn main() -> ExitCode {
@@ -280,6 +214,9 @@ fn main() -> ExitCode {
     }
     if let Some(line) = &options.ranked_case {
         return ranked::one_case(line);
+    }
+    if let Some(line) = &options.pad_case {
+        return pad::one_case(line);
     }
     if let Some(line) = &options.handle_case {
         return handle::one_case(line);

@@ -6,7 +6,7 @@ pub fn hex(bytes: &[u8]) -> String {
     bytes.iter().map(|byte| format!("{byte:02x}")).collect()
 }
 
-fn join<T: ToString>(numbers: &[T]) -> String {
+pub fn join<T: ToString>(numbers: &[T]) -> String {
     numbers.iter().map(T::to_string).collect::<Vec<_>>().join(",")
 }
 
@@ -37,7 +37,7 @@ pub fn unhex(text: &str) -> Option<Vec<u8>> {
     (0..text.len() / 2).map(|i| u8::from_str_radix(text.get(2 * i..2 * i + 2)?, 16).ok()).collect()
 }
 
-fn numbers<T: std::str::FromStr>(text: &str) -> Option<Vec<T>> {
+pub fn numbers<T: std::str::FromStr>(text: &str) -> Option<Vec<T>> {
     text.split(',').filter(|part| !part.is_empty()).map(|part| part.parse().ok()).collect()
 }
 

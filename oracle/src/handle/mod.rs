@@ -19,6 +19,7 @@ pub use any::{conclude, one_case, Any};
 pub use beside::Handles;
 pub use call::{ask, takes};
 pub use lists::round;
+pub use pages::Pages;
 
 use crate::random::Random;
 use std::time::Instant;

@@ -1,0 +1,172 @@
+//! The four calls on a pad through the C interface: each slice that is handed in lies between pages that cannot be touched, and every
+//! place of the lists that are lent for an answer is watched.
+
+use super::shrink::shown;
+use crate::handle::Pages;
+use crate::lent::Lent;
+use crate::reply::Reply;
+use std::ptr::null_mut;
+use std::sync::atomic::{AtomicPtr, Ordering};
+
+#[derive(Clone, Debug, PartialEq, Eq)]
+pub enum Call {
+    Save {
+        id: u32,
+        length: u32,
+        sounds: Vec<u8>,
+        steps: Vec<u32>,
+    },
+    Erase {
+        id: u32,
+    },
+    /// with so many places for sounds and for steps
+    Read {
+        id: u32,
+        room: [usize; 2],
+    },
+    Write {
+        text: Vec<u8>,
+        ends: Vec<u32>,
+        room: usize,
+    },
+}
+
+pub const CALLS: [&str; 4] = ["pad_save", "pad_erase", "pad_read", "pad_write"];
+
+impl Call {
+    pub fn save(id: u32, length: u32, hits: &[(u8, u32)]) -> Self {
+        let (sounds, steps) = hits.iter().copied().unzip();
+        Call::Save { id, length, sounds, steps }
+    }
+
+    /// Which of `CALLS` it is.
+    pub fn number(&self) -> usize {
+        match self {
+            Call::Save { .. } => 0,
+            Call::Erase { .. } => 1,
+            Call::Read { .. } => 2,
+            Call::Write { .. } => 3,
+        }
+    }
+}
+
+#[link(name = "pstp", kind = "static")]
+extern "C" {
+    fn pstp_pad_save(
+        pad: *mut u32,
+        pad_n: usize,
+        id: u32,
+        length: u32,
+        sounds: *const u8,
+        sounds_n: usize,
+        steps: *const u32,
+        steps_n: usize,
+    ) -> Reply;
+    fn pstp_pad_erase(pad: *mut u32, pad_n: usize, id: u32) -> Reply;
+    fn pstp_pad_read(
+        pad: *const u32,
+        pad_n: usize,
+        id: u32,
+        sounds: *mut u8,
+        sounds_n: usize,
+        steps: *mut u32,
+        steps_n: usize,
+    ) -> Reply;
+    fn pstp_pad_write(
+        pad: *const u32,
+        pad_n: usize,
+        text: *const u8,
+        text_n: usize,
+        ends: *const u32,
+        ends_n: usize,
+        out: *mut u8,
+        out_n: usize,
+    ) -> Reply;
+    fn signal(number: i32, handler: extern "C" fn(i32)) -> usize;
+    fn _exit(status: i32) -> !;
+}
+
+/// The pad's words and the call that is being made, for a fault.
+type Tried<'a> = (&'a [u32], &'a Call);
+
+static TRIED: AtomicPtr<Tried<'static>> = AtomicPtr::new(null_mut());
+
+/// A fault inside the library: nothing of this program is under way, so that the case can still be printed.
+extern "C" fn fault(number: i32) {
+    let tried = TRIED.load(Ordering::SeqCst);
+    if tried.is_null() {
+        println!("signal {number}, outside the calls on pads");
+    } else {
+        // SAFETY: `ask` is still under way, and what it set lives as long.
+        let (words, call) = unsafe { *tried };
+        println!("signal {number} in: {}", shown(words, call));
+    }
+    // SAFETY: it ends the program.
+    unsafe { _exit(1) }
+}
+
+/// Memory that cannot be touched, or an instruction that cannot be run, ends the run with the case that led there.
+pub fn report_faults() {
+    for number in [4, 7, 8, 11] {
+        // SAFETY: the handler prints and ends the program.
+        unsafe { signal(number, fault) };
+    }
+}
+
+/// Memory for every slice of a call.
+pub struct Slices {
+    pad: Pages,
+    bytes: Pages,
+    numbers: Pages,
+    pub sounds: Lent<u8>,
+    pub steps: Lent<u32>,
+    pub out: Lent<u8>,
+    /// whether the last call left what it only reads
+    pub given_left: bool,
+    at_end: bool,
+}
+
+impl Slices {
+    pub fn new() -> Self {
+        let (sounds, steps, out) = (Lent::new(), Lent::new(), Lent::new());
+        let (pad, bytes, numbers) = (Pages::new(), Pages::new(), Pages::new());
+        Slices { pad, bytes, numbers, sounds, steps, out, given_left: true, at_end: false }
+    }
+
+    /// Makes the call on a copy of these words, by turns at the end of its pages and at the beginning; gives the words afterwards too.
+    pub fn ask(&mut self, words: &[u32], call: &Call) -> (Reply, &[u32]) {
+        self.at_end = !self.at_end;
+        let pad = self.pad.put(words, self.at_end);
+        let (p, n) = (pad.as_mut_ptr(), pad.len());
+        let (sounds_room, steps_room, out_room) = match call {
+            Call::Read { room: [sounds, steps], .. } => (*sounds, *steps, 0),
+            Call::Write { room, .. } => (0, 0, *room),
+            _ => (0, 0, 0),
+        };
+        self.sounds.lend(sounds_room);
+        self.steps.lend(steps_room);
+        self.out.lend(out_room);
+        let (bytes, numbers): (&[u8], &[u32]) = match call {
+            Call::Save { sounds, steps, .. } => (sounds, steps),
+            Call::Write { text, ends, .. } => (text, ends),
+            _ => (&[], &[]),
+        };
+        let (b, m) = (self.bytes.put(bytes, self.at_end), self.numbers.put(numbers, self.at_end));
+        let ((bp, bn), (mp, mn)) = ((b.as_ptr(), b.len()), (m.as_ptr(), m.len()));
+        let ((s, sn), (t, tn), (out, out_n)) = (self.sounds.raw(), self.steps.raw(), self.out.raw());
+        let mut tried = (words, call);
+        TRIED.store((&mut tried as *mut Tried).cast(), Ordering::SeqCst);
+        // SAFETY: every pointer comes with the length of a slice that outlives the call, and the lent ones overlap nothing.
+        let reply = unsafe {
+            match call {
+                Call::Save { id, length, .. } => pstp_pad_save(p, n, *id, *length, bp, bn, mp, mn),
+                Call::Erase { id } => pstp_pad_erase(p, n, *id),
+                Call::Read { id, .. } => pstp_pad_read(p, n, *id, s, sn, t, tn),
+                Call::Write { .. } => pstp_pad_write(p, n, bp, bn, mp, mn, out, out_n),
+            }
+        };
+        TRIED.store(null_mut(), Ordering::SeqCst);
+        self.given_left = b == bytes && m == numbers;
+        (reply, pad)
+    }
+}

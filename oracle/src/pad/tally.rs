@@ -1,0 +1,202 @@
+//! What was asked of pads, and what was reached.
+
+use super::call::{Call, CALLS};
+use super::compare::Pad;
+use super::damage::KINDS;
+use super::model::{Test, Told};
+use super::seen::{Facts, TABLES};
+use super::words::{Damage, DAMAGES};
+
+use Test::*;
+
+/// The tests of each call in their order; of the names of sounds with hits any can come first.
+const TESTS: [&[Test]; 4] = [
+    &[Broken, Held, LongList, Lengths, Sound, Order, Step, Full],
+    &[Broken, Unknown],
+    &[Broken, Unknown, Sounds, Steps],
+    &[Broken, LongText, LongEnds, EndsCount, EndsFall, EndsLast, NotUtf8, Empty, NotRising, Out],
+];
+
+const NAMES: [Test; 3] = [NotUtf8, Empty, NotRising];
+const SHAPE: [Test; 5] = [LongText, LongEnds, EndsCount, EndsFall, EndsLast];
+
+fn words(test: Test) -> &'static str {
+    match test {
+        Broken => "20",
+        Held => "18",
+        LongList => "12 of a list",
+        Lengths => "11",
+        Sound => "12 of a sound",
+        Order => "6 20",
+        Step => "6 21",
+        Full => "19",
+        Unknown => "16",
+        Sounds => "13 1",
+        Steps => "13 2",
+        LongText => "12 of the text",
+        LongEnds => "12 of the ends",
+        EndsCount => "11 of their number",
+        EndsFall => "11 of ends that fall",
+        EndsLast => "11 of the last end",
+        NotUtf8 => "10",
+        Empty => "6 6",
+        NotRising => "6 16",
+        Out => "13 1",
+        Strange => "99",
+    }
+}
+
+/// Whether both can fail and be told, the first of them being the refusal.
+fn meet(first: Test, other: Test) -> bool {
+    let unknown = first == Unknown && [Sounds, Steps].contains(&other);
+    // without their shape the text has no names
+    let unnamed = SHAPE.contains(&first) && NAMES.contains(&other);
+    !unknown && !unnamed
+}
+
+/// The pairs of tests of a call that can fail together, the first in front.
+fn pairs(call: usize) -> Vec<(Test, Test)> {
+    let tests = TESTS[call];
+    let mut all = Vec::new();
+    for (i, first) in tests.iter().enumerate() {
+        for (j, other) in tests.iter().enumerate() {
+            let behind = j > i || (i != j && NAMES.contains(first) && NAMES.contains(other));
+            if behind && meet(*first, *other) {
+                all.push((*first, *other));
+            }
+        }
+    }
+    all
+}
+
+fn print_counts(counts: impl Iterator<Item = (&'static str, u64)>, missing: &mut Vec<String>) {
+    for (said, count) in counts {
+        println!("  {said:80}{count:>12}");
+        if count == 0 {
+            missing.push(said.to_string());
+        }
+    }
+}
+
+const COUNT: usize = Strange as usize + 1;
+
+pub struct Tally {
+    pub calls: [u64; 4],
+    accepted: [u64; 4],
+    refused: [[u64; COUNT]; 4],
+    together: Vec<[[u64; COUNT]; COUNT]>,
+    damages: [[u64; 4]; DAMAGES.len()],
+    /// calls on words that were damaged in a known way
+    pub kinds: [u64; KINDS.len()],
+    /// by call, the clauses of its table
+    seen: [Vec<u64>; 4],
+    /// words of the model's that were read again
+    pub held: u64,
+    /// verdicts of the model that were held against what a damage does
+    pub known: u64,
+    /// pads written out and asked, and the phrases that were put to them
+    pub written: u64,
+    pub phrases: u64,
+}
+
+impl Tally {
+    pub fn new() -> Self {
+        Tally {
+            calls: [0; 4],
+            accepted: [0; 4],
+            refused: [[0; COUNT]; 4],
+            together: vec![[[0; COUNT]; COUNT]; 4],
+            damages: [[0; 4]; DAMAGES.len()],
+            kinds: [0; KINDS.len()],
+            seen: TABLES.map(|table| vec![0; table.len()]),
+            held: 0,
+            known: 0,
+            written: 0,
+            phrases: 0,
+        }
+    }
+
+    pub fn total(&self) -> u64 {
+        self.calls.iter().sum()
+    }
+
+    /// Counts a call, before the pad is changed.
+    pub fn count(&mut self, pad: &Pad, call: &Call, told: &Told) {
+        let number = call.number();
+        self.calls[number] += 1;
+        match told {
+            Ok(_) => self.accepted[number] += 1,
+            Err(refused) => {
+                let first = refused.failing[0];
+                self.refused[number][first as usize] += 1;
+                for other in &refused.failing[1..] {
+                    self.together[number][first as usize][*other as usize] += 1;
+                }
+            }
+        }
+        if let Some(damage) = pad.held.broken {
+            self.count_damage(damage, number);
+        }
+        let facts = Facts::new(pad, call, told);
+        for (count, (_, seen)) in self.seen[number].iter_mut().zip(TABLES[number]) {
+            *count += u64::from(seen(&facts));
+        }
+    }
+
+    fn count_damage(&mut self, damage: Damage, call: usize) {
+        let place = DAMAGES.iter().position(|(known, _)| *known == damage).expect("every damage is listed");
+        self.damages[place][call] += 1;
+    }
+
+    /// Prints everything; answers how many clauses were not reached.
+    pub fn print(&self) -> usize {
+        println!("\npads: {} calls; words of the model's read again: {}", self.total(), self.held);
+        println!("verdicts held against a known damage: {}", self.known);
+        println!("pads written out and asked: {}, phrases held against the map's own hits: {}", self.written, self.phrases);
+        let mut missing = Vec::new();
+        for call in 0..4 {
+            self.print_call(call, &mut missing);
+        }
+        println!("words that are no pad, by the first rule that they break: save, erase, read, write");
+        for ((_, said), counts) in DAMAGES.iter().zip(self.damages) {
+            println!("  {said:60}{:>10}{:>10}{:>10}{:>10}", counts[0], counts[1], counts[2], counts[3]);
+            let none = CALLS.iter().zip(counts).filter(|(_, count)| *count == 0);
+            missing.extend(none.map(|(call, _)| format!("{call}: {said}")));
+        }
+        println!("calls on words that were changed so:");
+        print_counts(KINDS.iter().map(|(_, said)| *said).zip(self.kinds), &mut missing);
+        println!("calls that had:");
+        let clauses = TABLES.iter().copied().flatten().map(|(said, _)| *said);
+        print_counts(clauses.zip(self.seen.iter().flatten().copied()), &mut missing);
+        let strange: u64 = self.refused.iter().map(|refused| refused[Strange as usize]).sum();
+        if strange > 0 {
+            missing.push(format!("the Rust's writer and the words for it differ: {strange}"));
+        }
+        println!("of the calls on pads this run did not reach: {}", missing.len());
+        for said in &missing {
+            println!("  {said}");
+        }
+        missing.len()
+    }
+
+    fn print_call(&self, call: usize, missing: &mut Vec<String>) {
+        println!("{}: {} calls, {} accepted", CALLS[call], self.calls[call], self.accepted[call]);
+        for first in TESTS[call] {
+            let count = self.refused[call][*first as usize];
+            let mut said = format!("  {} x {count}", words(*first));
+            if count == 0 {
+                missing.push(format!("{}: {}", CALLS[call], words(*first)));
+            }
+            let with: Vec<(Test, Test)> = pairs(call).into_iter().filter(|pair| pair.0 == *first).collect();
+            for (place, (_, other)) in with.iter().enumerate() {
+                let count = self.together[call][*first as usize][*other as usize];
+                said += if place == 0 { ", together with " } else { ", " };
+                said += &format!("{} x {count}", words(*other));
+                if count == 0 {
+                    missing.push(format!("{}: {} together with {}", CALLS[call], words(*first), words(*other)));
+                }
+            }
+            println!("{said}");
+        }
+    }
+}
