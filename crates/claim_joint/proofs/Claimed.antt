@@ -34,7 +34,7 @@ use Rattle.claim_joint.proofs.Demanded.{written-back, listed, listed-tw
 
 -- ---- what the writer's reply says of the definition's answer
 
-refused-by : (r : Result (List ℕ)) {x : Refusal} → length-of-written r ≡ written.Refused x → r ≡ refuse x
+pub refused-by : (r : Result (List ℕ)) {x : Refusal} → length-of-written r ≡ written.Refused x → r ≡ refuse x
 refused-by (ok bytes) e = let z : _≡_ {A = ℕ} 0 1 = cc in absurd (omega arith)
 refused-by (refuse y) e = cc
 

@@ -10,8 +10,7 @@ use lib.ListN.{length, getD}
 use Rattle.common.specs.Elements.{_∈_, Rising}
 use Rattle.common.proofs.Elements.{rising-tail, rising-above, map-from}
 use Rattle.common.proofs.Membership.{in-some}
-use Rattle.segment.specs.Records.{Document, Posting, Given}
-use Rattle.segment.specs.Metadata.{document}
+use Rattle.segment.specs.Records.{Posting, Given}
 use Rattle.segment.specs.Texts.{names}
 use Rattle.segment.proofs.Shapes.{names-count}
 use Rattle.rules.specs.declared.rule.Rule.the-variants.{Phrase}
@@ -25,6 +24,7 @@ use Rattle.pad_map.specs.Bars.{Bar}
 use Rattle.pad_map.specs.Rules.{Hits-fine}
 use Rattle.pad_map.specs.Acts.{steps-of, postings-of, terms-of, given-of}
 use Rattle.pad_words.specs.Words.{held}
+use Rattle.pad_write.proofs.Bounds.{ids-are}
 use Rattle.claim_pad.specs.Phrases.{Has-hit, Hits-meet, Bars-that-meet}
 use Rattle.claim_pad.specs.Claims.{Own-hits, Bars-agree}
 use Rattle.claim_pad.proofs.Listed.{bar-posting, steps-gives, steps-from, postings-gives, postings-from, terms-gives, terms-from}
@@ -46,11 +46,6 @@ one-bar (a ∷ bars) r b c (inr m) (inl k) e =
     absurd (omega arith)
 one-bar (a ∷ bars) r b c (inr m) (inr k) e = one-bar bars (rising-tail (a .id) (map (λ b. b .id) bars) r) b c m k e
 
--- the ids of the documents
-pub map-ids : (bars : List Bar) → map (λ (d : Document). d .id) (map (λ (b : Bar). document (b .id) (b .len)) bars) ≡ map (λ b. b .id) bars
-map-ids [] = refl
-map-ids (b ∷ bars) = rw (map-ids bars)
-
 module _ (ns : List (List ℕ)) (bars : List Bar) where
   abbrev written : Lists
   written = laid-flat (given-of ns bars)
@@ -61,7 +56,7 @@ module _ (ns : List (List ℕ)) (bars : List Bar) where
 
   pub documents-are : map (λ d. d .id) (given written .documents) ≡ map (λ b. b .id) bars
   unfolding given-of
-  documents-are = ap (λ (g : Given). map (λ d. d .id) (g .documents)) (given-back (given-of ns bars)) ∙ map-ids bars
+  documents-are = ap (λ (g : Given). map (λ d. d .id) (g .documents)) (given-back (given-of ns bars)) ∙ ids-are bars
 
   -- the bar under an id has a hit of that name on that step
   abbrev Bar-has : ℕ → List ℕ → ℕ → Type 0

@@ -21,7 +21,7 @@ use Rattle.ask_search.specs.Promise.{Text-answered}
 use Rattle.claim_joint.specs.declared.ask.Asked.the-variants as asked
 use Rattle.claim_joint.specs.declared.ask.Question.the-variants as question
 use Rattle.claim_joint.specs.Demand.{Proper-text, Demand-3}
-use Rattle.claim_joint.proofs.Claimed.{Wrote-bytes, bytes-fit, asked-claim, put-phrase}
+use Rattle.claim_joint.proofs.Claimed.{refused-by, Wrote-bytes, bytes-fit, asked-claim, put-phrase}
 use Rattle.pad_map.specs.Acts.{given-of}
 use Rattle.pad_words.specs.Words.{held}
 use Rattle.pad_words.specs.Calls.{pad-write}
@@ -32,10 +32,6 @@ use Rattle.claim_pad.proofs.Writable.{Written-so, written-gives, writte
 use Rattle.claim_pad.proofs.Searched.{written-typed, bars-listed}
 
 -- ---- what the reply says of the definition's answer
-
-refused-if : (r : Result (List ℕ)) {x : Refusal} → length-of-written r ≡ written.Refused x → r ≡ refuse x
-refused-if (ok bytes) e = let z : _≡_ {A = ℕ} 0 1 = cc in absurd (omega arith)
-refused-if (refuse y) e = cc
 
 pub record Pad-bytes (pad text ends out : List ℕ) (n : ℕ) (out′ : List ℕ) : Type 0 where
   pub bytes : List ℕ
@@ -59,7 +55,7 @@ module _ (pad text ends out : List ℕ) {w : Written} {out′ : List ℕ} (wrote
       → Pad-written-then-asked pad text ends out name name-ends found (asked.NotWritten x) out′ found
   refused-claim {x} e name name-ends found =
       let refusal : pad-write pad text ends (length out) ≡ refuse x =
-      refused-if (pad-write pad text ends (length out)) (sym (wrote .reply) ∙ e) in
+      refused-by (pad-write pad text ends (length out)) (sym (wrote .reply) ∙ e) in
       let same : out′ ≡ out = wrote .left ∙ ap (λ r. filled (λ xs. xs) r out) refusal in
       record {
         claim = record {

@@ -14,7 +14,7 @@ use Rattle.common.specs.Elements.{_∈_}
 use Rattle.common.specs.Lists.{total, joined}
 use Rattle.common.proofs.Elements.{map-from}
 use Rattle.common.proofs.Loops.{and-right}
-use Rattle.common.proofs.Membership.{map-gives, joined-gives, joined-from, place-of, at-place}
+use Rattle.common.proofs.Membership.{map-gives, joined-gives, joined-from, at-place}
 use Rattle.segment.specs.Records.{Document, Posting, Term}
 use Rattle.segment.specs.Metadata.{document}
 use Rattle.segment.specs.Texts.{ends-fit, names}
@@ -24,17 +24,15 @@ use Rattle.calls.specs.Acceptance.{Posting-fine, Lists-fine}
 use Rattle.calls.proofs.Flat.{flat-again}
 use Rattle.calls.proofs.Parts.{ends-last, names-joined}
 use Rattle.roundtrip.specs.Claims.{Below, Typed}
+use Rattle.roundtrip.proofs.ReadsBack.{member-below}
 use Rattle.pad_map.specs.Bars.{Bar}
 use Rattle.pad_map.specs.Acts.{terms-of, given-of}
 use Rattle.pad_words.specs.Words.{bars-of, held}
+use Rattle.pad_write.proofs.Bounds.{ids-are}
 use Rattle.claim_pad.specs.Written.{Names-shaped, map-lists}
 use Rattle.claim_pad.proofs.Listed.{terms-gives}
-use Rattle.claim_pad.proofs.Hits.{map-ids}
 
 -- ---- by elements
-
-below-each : (n : ℕ) (xs : List ℕ) → Below n xs → (x : ℕ) → x ∈ xs → x < n
-below-each n xs b x m = let (i, _, e) = place-of 0 xs x m in omega (arith, e, b i)
 
 each-below : (n : ℕ) → 0 < n → (xs : List ℕ) → ((x : ℕ) → x ∈ xs → x < n) → Below n xs
 each-below n some [] h i = some
@@ -76,7 +74,7 @@ module _ (l : Lists) (fine : Lists-fine l) where
         omega (
           arith,
           f .same,
-          below-each (2 ^ 32) (l .ids) ids (f .of .id)
+          member-below (2 ^ 32) (l .ids) ids (f .of .id)
               (subst (λ (k : Lists). f .of .id ∈ k .ids) flat (map-from (λ d. d .id) (given l .documents) (f .of) (f .known))),
         )
 
@@ -87,7 +85,7 @@ module _ (l : Lists) (fine : Lists-fine l) where
         omega (
           arith,
           f .inside x on,
-          below-each (2 ^ 32) (l .lengths) lengths (f .of .len)
+          member-below (2 ^ 32) (l .lengths) lengths (f .of .len)
               (subst (λ (k : Lists). f .of .len ∈ k .lengths) flat (map-from (λ d. d .len) (given l .documents) (f .of) (f .known))),
         )
 
@@ -146,7 +144,7 @@ module _ (pad text ends : List ℕ) (low : Below (2 ^ 32) pad) (bytes : Below 25
       let o = terms-gives 0 (names 0 ends text) (held pad) t m in
       let fit : ends-fit 0 ends (0 + length text) ≡ true = rw zero-add (shape-is text ends .1 (shaped .shape)) in
       let there = at-place [] (names 0 ends text) (o .place) (o .inside) in
-      below-each 256 text bytes x
+      member-below 256 text bytes x
       (subst (λ q. x ∈ q) (names-joined 0 ends text fit)
       (joined-from (names 0 ends text) _ x there (subst (λ q. x ∈ q) (o .name-is) on)))
 
@@ -156,7 +154,7 @@ module _ (pad text ends : List ℕ) (low : Below (2 ^ 32) pad) (bytes : Below 25
       let bars = held pad in
       let ts = terms-of 0 (names 0 ends text) bars in
       typed-lists (map-lists pad text ends) fine
-      (rw (map-ids bars) (each-below (2 ^ 32) (omega arith) (map (λ b. b .id) bars) (λ x m.
+      (rw (ids-are bars) (each-below (2 ^ 32) (omega arith) (map (λ b. b .id) bars) (λ x m.
       let (b, k, e) = map-gives (λ b. b .id) bars x m in omega (arith, e, held-below (2 ^ 32) pad low b k .0))))
       (rw (lens-are bars) (each-below (2 ^ 32) (omega arith) (map (λ b. b .len) bars) (λ x m.
       let (b, k, e) = map-gives (λ b. b .len) bars x m in omega (arith, e, held-below (2 ^ 32) pad low b k .1))))

@@ -33,12 +33,12 @@ use Rattle.pad_words.specs.Words.{held}
 use Rattle.pad_words.specs.Whole.{Whole, whole}
 use Rattle.pad_words.specs.Calls.{held-bars, pad-write}
 use Rattle.pad_words.proofs.Exactly.{whole-exactly}
-use Rattle.pad_write.proofs.Bounds.{documents-of, checks-are}
+use Rattle.pad_write.proofs.Bounds.{documents-of, ids-are, checks-are}
 use Rattle.claim_pad.specs.Written.{Used, Names-fine, Names-shaped, map-lists, Names-decide, Only-names, Written-exactly}
 use Rattle.claim_pad.proofs.Acting.{holds-these, holds-own, write-by-map}
 use Rattle.claim_pad.proofs.Listed.{terms-gives}
 use Rattle.claim_pad.proofs.Listed as listed
-use Rattle.claim_pad.proofs.Hits.{map-ids, terms-are}
+use Rattle.claim_pad.proofs.Hits.{terms-are}
 use Rattle.claim_pad.proofs.Fine.{docs-rise, posting-fine}
 use Rattle.claim_pad.proofs.Named.{used-some, some-used, names-from, names-give, names-decide-terms}
 
@@ -84,7 +84,7 @@ write-is pad text ends room w n =
 module _ (ns : List (List ℕ)) (bars : List Bar) (rise : Rising (map (λ b. b .id) bars))
     (fine : (b : Bar) → b ∈ bars → Hits-fine (b .len) (b .hits)) where
   documents-rise : Rising (map (λ d. d .id) (documents-of bars))
-  documents-rise = rw (map-ids bars) rise
+  documents-rise = rw (ids-are bars) rise
 
   postings-pass : (t : Term) → t ∈ terms-of 0 ns bars
       → (0 < length (t .postings)) × (check-postings (documents-of bars) none (t .postings) ≡ ok tt)

@@ -1,8 +1,8 @@
 -- The call's answers: 20, then 12 and 11, then what the writer answers of the pad's lists.
 -- Assumes nothing.
-use mathlib.Core.Path.{_≡_, refl, sym, ap, _∙_}
+use mathlib.Core.Path.{_≡_, sym, ap, _∙_}
 use mathlib.Core.Bool.{Bool, true, false, _&&_}
-use mathlib.Core.List.{List, map}
+use mathlib.Core.List.{List}
 use mathlib.Core.Option.{none}
 use Prim.Native.Nat.{ℕ, _+_, _*_, _≤_, _<_, _^_}
 use native.Mathlib.Omega.{arith}
@@ -16,12 +16,11 @@ use Rattle.segment.specs.declared.checked.Checked.the-variants as check
 use Rattle.segment.specs.declared.replies.Written.{Written}
 use Rattle.segment.specs.declared.replies.Written.the-variants as written
 use Rattle.segment.specs.Metadata.{document}
-use Rattle.segment.specs.Records.{Given}
 use Rattle.segment.specs.Refusals.{too-large, list-shape, broken-pad, no-room}
 use Rattle.segment.specs.Results.{Result, ok, refuse, _>>=_, check as checking}
 use Rattle.segment.specs.Steps.{checked}
 use Rattle.segment.specs.Texts.{ends-fit}
-use Rattle.segment.specs.Written.{name-bytes, metadata-bytes, lists-bytes, segment-bytes}
+use Rattle.segment.specs.Written.{name-bytes, metadata-bytes, segment-bytes}
 use Rattle.segment.proofs.Accepted.{check-gives}
 use Rattle.segment.proofs.Inversions.{last-gives}
 use Rattle.calls.specs.Checks.{check-lists, check-terms}
@@ -41,7 +40,8 @@ use Rattle.pad_lists.specs.Steps.{Documents-gathered}
 use Rattle.pad_write.specs.declared.measure.Tally.{Tally}
 use Rattle.pad_write.specs.Promise.{Pad-written}
 use Rattle.pad_write.specs.Steps.{Tallied-all, Documents-given, Soundable, check-text, Segment-room, Segment-stored}
-use Rattle.pad_write.proofs.Bounds.{Few, documents-of, documents-are, bars-few, pad-terms, pad-given, terms-few, checks-are, lists-low}
+use Rattle.pad_write.proofs.Bounds.{Few, documents-of, documents-are, bars-few, pad-terms, pad-given, terms-few, checks-are}
+use Rattle.pad_write.proofs.Bounds.{lists-low}
 
 -- ---- the documents handed in
 

@@ -18,7 +18,7 @@ use Rattle.segment.specs.Written.{name-bytes, lists-bytes}
 use Rattle.segment.proofs.Shapes.{names-count}
 use Rattle.calls.specs.Acceptance.{Small}
 use Rattle.calls.specs.Checks.{check-documents, check-terms, check-given, check-lists}
-use Rattle.calls.specs.Given.{given, laid-flat, term, ends-from}
+use Rattle.calls.specs.Given.{laid-flat, term}
 use Rattle.calls.proofs.Accepted.{documents-give}
 use Rattle.calls.proofs.Lengths.{lists-small}
 use Rattle.calls.proofs.Parts.{names-joined}
@@ -47,7 +47,8 @@ documents-are (b ∷ bs) = rw (documents-are bs)
 -- as many ids as lengths
 pub documents-match : {pad ids lengths : List ℕ} → Documents-given pad ids lengths → length ids ≡ length lengths
 documents-match {pad} d =
-    ap length (d .ids-are) ∙ length-map (held pad) (λ b. b .id) ∙ sym (length-map (held pad) (λ b. b .len)) ∙ sym (ap length (d .lengths-are))
+    ap length (d .ids-are) ∙ length-map (held pad) (λ b. b .id)
+    ∙ sym (length-map (held pad) (λ b. b .len)) ∙ sym (ap length (d .lengths-are))
 
 -- ids rise, so their check passes
 documents-pass : (previous : Option ℕ) (remaining : ℕ) (bars : List Bar) → bars-fine previous remaining bars ≡ true
@@ -58,7 +59,7 @@ documents-pass previous remaining (b ∷ bs) e =
     let f = fine-cons previous remaining b bs e in
     rw (f .up) (documents-pass (some (b .id)) _ bs (f .rest))
 
-ids-are : (bars : List Bar) → map (λ d. d .id) (documents-of bars) ≡ map (λ b. b .id) bars
+pub ids-are : (bars : List Bar) → map (λ d. d .id) (documents-of bars) ≡ map (λ b. b .id) bars
 ids-are [] = refl
 ids-are (b ∷ bs) = rw (ids-are bs)
 
@@ -135,14 +136,18 @@ module _ (pad : List ℕ) (w : whole pad ≡ true) where
   hits-few = omega (arith, total-is pad w, whole-parts pad w .hits)
 
   -- the sounds' names in a text that has its shape
-  module _ (text ends : List ℕ) (short : length text ≤ 16777216) (sounds : length ends ≡ 128) (fit : ends-fit 0 ends (length text) ≡ true) where
+  module _ (text ends : List ℕ) (short : length text ≤ 16777216) (sounds : length ends ≡ 128)
+      (fit : ends-fit 0 ends (length text) ≡ true) where
+    abbrev given-here : Given
+    given-here = pad-given pad text ends
+
     pub terms-few : Few 128 (length text) (pad-terms pad text ends)
     terms-few =
         let z : 0 + length text ≡ length text = omega arith in
         let f = few-terms (held pad) bars-few hits-few 0 (names 0 ends text) in
         rw (names-count 0 ends text, sounds, names-joined 0 ends text (rw z fit)) at f
 
-    flat-small : Small (laid-flat (pad-given pad text ends))
+    flat-small : Small (laid-flat given-here)
     unfolding laid-flat given-of name-bytes
     flat-small =
         let f = terms-few in
@@ -161,16 +166,16 @@ module _ (pad : List ℕ) (w : whole pad ≡ true) where
         }
 
     -- the writer's checks of these lists are those of the terms
-    pub checks-are : check-lists (laid-flat (pad-given pad text ends)) ≡ check-terms (documents-of (held pad)) none (pad-terms pad text ends)
+    pub checks-are : check-lists (laid-flat given-here) ≡ check-terms (documents-of (held pad)) none (pad-terms pad text ends)
     unfolding check-lists check-given given-of
     checks-are =
         rw (
-          small-from (laid-flat (pad-given pad text ends)) flat-small,
-          shaped-from (laid-flat (pad-given pad text ends)) (flat-shape (pad-given pad text ends)),
-          given-back (pad-given pad text ends),
+          small-from (laid-flat given-here) flat-small,
+          shaped-from (laid-flat given-here) (flat-shape given-here),
+          given-back given-here,
           documents-fine,
         )
 
     pub lists-low : length (lists-bytes (pad-terms pad text ends)) ≤ 251658240
     unfolding given-of
-    lists-low = rw (given-back (pad-given pad text ends)) at (lists-small (laid-flat (pad-given pad text ends)) flat-small (flat-shape (pad-given pad text ends)))
+    lists-low = rw (given-back given-here) at (lists-small (laid-flat given-here) flat-small (flat-shape given-here))

@@ -3,7 +3,7 @@
 use mathlib.Core.Path.{_≡_, refl, sym, ap, _∙_}
 use mathlib.Core.List.{List}
 use mathlib.Core.Option.{none}
-use Prim.Native.Nat.{ℕ, _+_, _-_, _≤_, _<_}
+use Prim.Native.Nat.{ℕ, _+_, _-_, _≤_}
 use native.Mathlib.Omega.{arith}
 use lib.ListN.{length}
 use lib.Seq.{sets}
@@ -11,15 +11,14 @@ use Rattle.common.specs.Stores.{Stored}
 use Rattle.common.proofs.Stores.{stored-length}
 use Rattle.segment.specs.Records.{Posting, between}
 use Rattle.segment.specs.Written.{entry-bytes, postings-bytes}
-use Rattle.calls.specs.Given.{term}
 use Rattle.write_frame.specs.declared.frame.Past.{Past}
 use Rattle.write_frame.specs.Steps.{entry-of-list, Entry-room, Entry-stored}
 use Rattle.write_segment.proofs.Sets.{between-stored}
 use Rattle.pad_lists.specs.declared.sound.Gathered.{Gathered}
 use Rattle.pad_write.specs.declared.store.Progress.{Progress}
-use Rattle.pad_write.specs.Steps.{gathered, Term-stored, Nothing-stored, Sound-stored, Term-room, Sound-room}
+use Rattle.pad_write.specs.Steps.{gathered, Sound-stored, Term-room, Sound-room}
 use Rattle.pad_write.proofs.Parts.{gathered-count}
-use Rattle.pad_write.proofs.Tallying.{name-length}
+use Rattle.pad_write.proofs.Sounds.{name-length}
 
 module _ (text posting-ids counts positions : List ℕ) (got : Gathered) (end : ℕ) (out : List ℕ) (names-at lists-at : ℕ) (p : Progress)
     (room : Sound-room text posting-ids counts positions got end out names-at lists-at p) where

@@ -1,23 +1,19 @@
--- The parts of lists that hold a sound's postings fit together, as the writer's functions ask; and the cursors before the first sound.
+-- The parts of lists that hold a sound's postings fit together, as the writer's functions ask.
 -- Assumes nothing.
 use mathlib.Core.Path.{_≡_, sym, _∙_}
 use mathlib.Core.List.{List}
-use mathlib.Core.Logic.{⊎-elim}
 use mathlib.Core.Option.{none}
-use Prim.Native.Nat.{ℕ, _≤_, _<_}
+use Prim.Native.Nat.{ℕ, _≤_}
 use native.Mathlib.Omega.{arith}
-use lib.ListN.{length, take, getD, replicate, length-replicate, getD-replicate, List·getD-eq-default}
+use lib.ListN.{length, take, replicate, length-replicate}
 use lib.Seq.{length-take-le}
 use Rattle.common.specs.Lists.{parts, total}
-use Rattle.common.proofs.Loops.{lt-or-ge}
 use Rattle.common.proofs.Pairs.{paired-count}
 use Rattle.segment.specs.Written.{postings-bytes}
 use Rattle.calls.specs.Given.{posting}
 use Rattle.calls.proofs.Lengths.{flat-postings-size}
 use Rattle.calls.proofs.Parts.{parts-count}
-use Rattle.pad_map.specs.Bars.{Bar}
-use Rattle.pad_lists.specs.Steps.{Cursors, Places, Sound-gathered}
-use Rattle.pad_lists.proofs.Cursors.{cursors-begin}
+use Rattle.pad_lists.specs.Steps.{Places, Sound-gathered}
 use Rattle.pad_lists.specs.declared.sound.Gathered.{Gathered}
 use Rattle.pad_write.specs.Steps.{In-lists, gathered, Lists-long}
 
@@ -65,17 +61,6 @@ in-lists g = record {
   few-postings = g .few-postings;
   few-positions = g .few-positions;
 }
-
--- the cursors before the first sound
-pub zeros : (n i : ℕ) → _≡_ {A = ℕ} (getD (replicate n 0) i 0) 0
-zeros n i =
-    ⊎-elim
-    (λ (h : i < n). getD-replicate n i 0 0 h)
-    (λ (h : n ≤ i). List·getD-eq-default (replicate n 0) 0 (omega (arith, length-replicate {A = ℕ} n 0)))
-    (lt-or-ge i n)
-
-pub cursors-first : (bars : List Bar) → Cursors 0 bars (replicate 256 0)
-cursors-first bars = cursors-begin bars (replicate 256 0) (zeros 256)
 
 -- the lists that are lent to hold one sound
 pub places-first : {posting-ids counts positions : List ℕ} → Lists-long posting-ids counts positions

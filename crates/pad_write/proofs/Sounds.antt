@@ -3,35 +3,34 @@
 use mathlib.Core.Path.{_≡_, refl, sym, ap, _∙_}
 use mathlib.Core.Bool.{Bool, true, false, cond, _&&_}
 use mathlib.Core.List.{List, [], _∷_, map}
-use Prim.Native.Nat.{ℕ, suc, _+_, _-_, _*_, _≤_, _<_}
+use Prim.Native.Nat.{ℕ, _+_, _-_, _≤_, _<_}
 use native.Mathlib.Numerals.{add-one}
 use native.Mathlib.Omega.{arith}
 use lib.Dec.{ltb, leb}
-use lib.ListN.{length, drop, getD, length-append, length-map}
-use lib.Seq.{drop-drop}
+use lib.ListN.{length, drop, getD, length-append, length-drop, length-map}
+use lib.Seq.{drop-drop, length-take-le}
 use borrow.Author.Tests.{leb-true, lt-ltb, le-ltb}
 use Rattle.common.specs.Lists.{joined}
 use Rattle.common.specs.Members.{kept}
 use Rattle.common.proofs.Loops.{and-left, and-right, drop-step, drop-end}
 use Rattle.common.proofs.Kept.{kept-fewer}
-use Rattle.segment.specs.Records.{Posting, Term, between}
+use Rattle.segment.specs.Records.{Posting, between}
 use Rattle.segment.specs.Texts.{ends-fit, names}
-use Rattle.segment.specs.Written.{name-bytes}
 use Rattle.calls.specs.Given.{posting, term}
 use Rattle.calls.proofs.Parts.{ends-last}
-use Rattle.pad_map.specs.Bars.{Hit, Bar, hits-in-all}
+use Rattle.pad_map.specs.Bars.{Bar, hits-in-all}
 use Rattle.pad_map.specs.Acts.{of-sound, steps-of, has-steps, postings-of, terms-of}
 use Rattle.pad_write.specs.Steps.{terms-from}
 
 -- ---- the text's ends
 
 -- a sound's name lies in what is left of the text
-pub record Name-there (text ends : List ℕ) (s from : ℕ) : Type 0 where
-  pub up : from ≤ getD ends s 0
-  pub inside : getD ends s 0 ≤ length text
-  pub rest : ends-fit (getD ends s 0) (drop (s + 1) ends) (length text) ≡ true
+record Name-there (text ends : List ℕ) (s from : ℕ) : Type 0 where
+  up : from ≤ getD ends s 0
+  inside : getD ends s 0 ≤ length text
+  rest : ends-fit (getD ends s 0) (drop (s + 1) ends) (length text) ≡ true
 
-pub name-there : (text ends : List ℕ) (s from : ℕ) → ends-fit from (drop s ends) (length text) ≡ true → s < length ends
+name-there : (text ends : List ℕ) (s from : ℕ) → ends-fit from (drop s ends) (length text) ≡ true → s < length ends
     → Name-there text ends s from
 unfolding ends-fit
 name-there text ends s from fit h =
@@ -68,12 +67,45 @@ module _ (bars : List Bar) (text ends : List ℕ) where
         let e : from + (end - from) ≡ end = omega arith in
         rw (drop-step ends s 0 h, drop-drop (end - from) from text, e, add-one s)
 
-    pub come-used : 0 < length (postings-of s bars)
+    come-used : 0 < length (postings-of s bars)
         → terms-from bars text ends s from ≡ term (between from end text) (postings-of s bars) ∷ terms-from bars text ends (s + 1) end
     come-used k = come-turn ∙ rw (lt-ltb 0 (length (postings-of s bars)) k)
 
-    pub come-unused : length (postings-of s bars) ≡ 0 → terms-from bars text ends s from ≡ terms-from bars text ends (s + 1) end
+    come-unused : length (postings-of s bars) ≡ 0 → terms-from bars text ends s from ≡ terms-from bars text ends (s + 1) end
     come-unused k = come-turn ∙ rw (le-ltb 0 (length (postings-of s bars)) (omega arith))
+
+pub name-length : (text : List ℕ) (from end : ℕ) → from ≤ end → end ≤ length text → length (between from end text) ≡ end - from
+name-length text from end h k = length-take-le (end - from) (drop from text) (omega (arith, length-drop from text))
+
+-- what the next sound's end, and its n postings, say of the terms to come
+pub record Next-sound (bars : List Bar) (text ends : List ℕ) (s from n end : ℕ) (ps : List Posting) : Type 0 where
+  pub few : s + 1 ≤ length ends
+  pub order : from ≤ end
+  pub inside : end ≤ length text
+  pub rest : ends-fit end (drop (s + 1) ends) (length text) ≡ true
+  pub size : length (between from end text) ≡ end - from
+  pub count : n ≡ length ps
+  pub skipped : n ≡ 0 → terms-from bars text ends s from ≡ terms-from bars text ends (s + 1) end
+  pub taken : 0 < n → terms-from bars text ends s from ≡ term (between from end text) ps ∷ terms-from bars text ends (s + 1) end
+
+pub next-sound : (bars : List Bar) (text ends : List ℕ) (s from : ℕ) {n end : ℕ} {ps : List Posting}
+    → ends-fit from (drop s ends) (length text) ≡ true → s < length ends → end ≡ getD ends s 0 → n ≡ length (postings-of s bars)
+    → ps ≡ postings-of s bars
+    → Next-sound bars text ends s from n end ps
+next-sound bars text ends s from {n} {end} {ps} fit h is-end is-n is =
+    let t = name-there text ends s from fit h in
+    let up : from ≤ end = omega (arith, t .up) in
+    let inside : end ≤ length text = omega (arith, t .inside) in
+    record {
+      few = omega arith;
+      order = up;
+      inside = inside;
+      rest = rw is-end (t .rest);
+      size = name-length text from end up inside;
+      count = is-n ∙ ap length (sym is);
+      skipped = λ z. come-unused bars text ends s from h (t .up) (sym is-n ∙ z) ∙ rw is-end;
+      taken = λ k. come-used bars text ends s from h (t .up) (omega arith) ∙ rw (is-end, is);
+    }
 
 -- ---- at most so many
 

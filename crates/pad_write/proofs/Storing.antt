@@ -2,11 +2,11 @@
 -- Assumes nothing.
 use mathlib.Core.Path.{_≡_, refl, sym, ap, _∙_}
 use mathlib.Core.Bool.{true}
-use mathlib.Core.List.{List, [], _∷_, _++_}
+use mathlib.Core.List.{List, _∷_, _++_}
 use mathlib.Core.Logic.{⊎-elim}
-use Prim.Native.Nat.{ℕ, _+_, _-_, _*_, _^_, _≤_, _<_}
+use Prim.Native.Nat.{ℕ, _+_, _-_, _*_, _≤_, _<_}
 use native.Mathlib.Omega.{arith}
-use lib.ListN.{length, drop, getD, length-append}
+use lib.ListN.{length, drop}
 use lib.Seq.{sets, length-sets}
 use Rattle.common.specs.Stores.{Stored}
 use Rattle.common.proofs.Loops.{lt-or-ge}
@@ -21,12 +21,11 @@ use Rattle.calls.proofs.Lengths.{directory-length}
 use Rattle.write_segment.proofs.Entries.{beside}
 use Rattle.write_segment.proofs.Sets.{sets-comm}
 use Rattle.pad_map.specs.Bars.{Bar}
-use Rattle.pad_map.specs.Acts.{postings-of}
 use Rattle.pad_write.specs.declared.store.Progress.{Progress}
 use Rattle.pad_write.specs.Steps.{terms-from, stored-terms, Term-stored, Nothing-stored, Sound-stored, Term-room, Terms-stored}
 use Rattle.pad_write.specs.Steps.{Terms-room}
-use Rattle.pad_write.proofs.Sounds.{Name-there, name-there, come-end, come-used, come-unused}
-use Rattle.pad_write.proofs.Tallying.{names-cons, lists-cons, name-length}
+use Rattle.pad_write.proofs.Sounds.{Next-sound, come-end}
+use Rattle.pad_write.proofs.Tallying.{names-cons, lists-cons}
 
 -- ---- one term more
 
@@ -65,8 +64,8 @@ module _ (names-at lists-at : ℕ) (t : Term) (ts : List Term) (out : List ℕ) 
 abbrev pub first-progress : (lists-at : ℕ) → Progress
 first-progress lists-at = record { list = lists-at; entry = 72; name = 0; run = 0xFFFFFFFF; from = 0 }
 
--- once the terms to come are stored too, all are; `start` is the slice before the first. And once their lists are taken in too, `run` is the
--- remainder of all
+-- once the terms to come are stored too, all are; `start` is the slice before the first. And once their lists are taken in too, the
+-- remainder `run` is that of all
 pub record Stores-left (bars : List Bar) (text ends : List ℕ) (names-at lists-at : ℕ) (start out : List ℕ) (s : ℕ) (p : Progress) : Type 0
   where
     pub few : s ≤ length ends
@@ -75,7 +74,8 @@ pub record Stores-left (bars : List Bar) (text ends : List ℕ) (names-at lists-
     pub lists-end : p .list + length (lists-bytes (terms-from bars text ends s (p .from)))
         ≡ lists-at + length (lists-bytes (terms-from bars text ends 0 0))
     pub entries-end : p .entry + 32 * length (terms-from bars text ends s (p .from)) ≡ 72 + 32 * length (terms-from bars text ends 0 0)
-    pub names-end : p .name + length (name-bytes (terms-from bars text ends s (p .from))) ≡ length (name-bytes (terms-from bars text ends 0 0))
+    pub names-end : p .name + length (name-bytes (terms-from bars text ends s (p .from)))
+        ≡ length (name-bytes (terms-from bars text ends 0 0))
     pub same : stored-terms names-at lists-at (terms-from bars text ends s (p .from)) out p
         ≡ stored-terms names-at lists-at (terms-from bars text ends 0 0) start (first-progress lists-at)
     pub carried : all-taken-in (p .run) (lists-bytes (terms-from bars text ends s (p .from)))
@@ -120,100 +120,80 @@ module _ (bars : List Bar) (text ends : List ℕ) (names-at lists-at : ℕ) (sta
           left = rw (e, z, w) at (l .same);
         }
 
-    module _ (h : s < length ends) where
-      there : Name-there text ends s (p .from)
-      there = name-there text ends s (p .from) (l .fit) h
+    module _ {n end : ℕ} {ps : List Posting} (x : Next-sound bars text ends s (p .from) n end ps) where
+      abbrev name : List ℕ
+      name = between (p .from) end text
 
-      module _ {n end : ℕ} {ps : List Posting} (is-end : end ≡ getD ends s 0) (is-n : n ≡ length (postings-of s bars))
-          (is : ps ≡ postings-of s bars) where
-        pub stores-order : p .from ≤ end
-        stores-order = omega (arith, there .up)
+      abbrev coming : List Term
+      coming = terms-from bars text ends (s + 1) end
 
-        pub stores-inside : end ≤ length text
-        stores-inside = omega (arith, there .inside)
+      -- what is left with the next term apart
+      record Ahead : Type 0 where
+        lists-end : p .list + (length (list-bytes (term name ps)) + length (lists-bytes coming)) ≡ lists-at + length (lists-bytes all-terms)
+        entries-end : p .entry + 32 * length (term name ps ∷ coming) ≡ 72 + 32 * length all-terms
+        names-end : p .name + (length name + length (name-bytes coming)) ≡ length (name-bytes all-terms)
 
-        abbrev name : List ℕ
-        name = between (p .from) end text
+      ahead : 0 < n → Ahead
+      ahead k =
+          let e = x .taken k in
+          record {
+            lists-end = rw (e, lists-cons (term name ps) coming) at (l .lists-end);
+            entries-end = rw e at (l .entries-end);
+            names-end = rw (e, names-cons (term name ps) coming) at (l .names-end);
+          }
 
-        abbrev coming : List Term
-        coming = terms-from bars text ends (s + 1) end
+      pub term-room : 0 < n → Term-room names-at lists-at (list-bytes (term name ps)) (end - p .from) out p
+      term-room k =
+          let a = ahead k in
+          record {
+            entry = omega (arith, a .entries-end, room .directory);
+            name = omega (arith, a .names-end, room .names, x .size);
+            begun = l .begun;
+            room = omega (arith, a .lists-end, room .lists, stores-length);
+            small-name = omega (arith, a .names-end, room .small-names, x .size);
+          }
 
-        size : length name ≡ end - p .from
-        size = name-length text (p .from) end stores-order stores-inside
-
-        skipped : n ≡ 0 → terms-from bars text ends s (p .from) ≡ coming
-        skipped z = come-unused bars text ends s (p .from) h (there .up) (omega arith) ∙ rw is-end
-
-        taken : 0 < n → terms-from bars text ends s (p .from) ≡ term name ps ∷ coming
-        taken k = come-used bars text ends s (p .from) h (there .up) (omega arith) ∙ rw (is-end, is)
-
-        -- what is left with the next term apart
-        record Ahead : Type 0 where
-          lists-end : p .list + (length (list-bytes (term name ps)) + length (lists-bytes coming)) ≡ lists-at + length (lists-bytes all-terms)
-          entries-end : p .entry + 32 * length (term name ps ∷ coming) ≡ 72 + 32 * length all-terms
-          names-end : p .name + (length name + length (name-bytes coming)) ≡ length (name-bytes all-terms)
-
-        ahead : 0 < n → Ahead
-        ahead k =
-            let e = taken k in
+      module _ {r : Progress} {out′ : List ℕ} (from : r .from ≡ end) where
+        unused-next : n ≡ 0 → Nothing-stored out p r out′ → Stores-left bars text ends names-at lists-at start out′ (s + 1) r
+        unused-next z q =
+            let e = x .skipped z in
             record {
-              lists-end = rw (e, lists-cons (term name ps) coming) at (l .lists-end);
-              entries-end = rw e at (l .entries-end);
-              names-end = rw (e, names-cons (term name ps) coming) at (l .names-end);
+              few = x .few;
+              fit = rw from (x .rest);
+              begun = rw (q .list) (l .begun);
+              lists-end = rw (q .list, from) (rw e at (l .lists-end));
+              entries-end = rw (q .entry, from) (rw e at (l .entries-end));
+              names-end = rw (q .name, from) (rw e at (l .names-end));
+              same = rw (q .list, q .entry, q .name, q .left, from) (rw e at (l .same));
+              carried = rw (q .run, from) (rw e at (l .carried));
             }
 
-        pub term-room : 0 < n → Term-room names-at lists-at (list-bytes (term name ps)) (end - p .from) out p
-        term-room k =
+        used-next : 0 < n → Term-stored names-at lists-at (term name ps) out p r out′
+            → Stores-left bars text ends names-at lists-at start out′ (s + 1) r
+        unfolding lists-bytes
+        used-next k q =
+            let e = x .taken k in
             let a = ahead k in
             record {
-              entry = omega (arith, a .entries-end, room .directory);
-              name = omega (arith, a .names-end, room .names, size);
-              begun = l .begun;
-              room = omega (arith, a .lists-end, room .lists, stores-length);
-              small-name = omega (arith, a .names-end, room .small-names, size);
+              few = x .few;
+              fit = rw from (x .rest);
+              begun = omega (arith, q .list, l .begun);
+              lists-end = rw from (omega (arith, a .lists-end, q .list));
+              entries-end = rw from (omega (arith, a .entries-end, q .entry));
+              names-end = rw from (omega (arith, a .names-end, q .name));
+              same =
+                  rw from (store-next names-at lists-at (term name ps) coming out p (l .begun)
+                  (omega (arith, a .entries-end, room .directory)) (omega (arith, a .names-end, room .names, l .begun)) q)
+                  ∙ rw e at (l .same);
+              carried =
+                  rw (q .run, from) (sym (part-by-part (p .run) (list-bytes (term name ps)) (lists-bytes coming)))
+                  ∙ rw e at (l .carried);
             }
 
-        module _ {r : Progress} {out′ : List ℕ} (from : r .from ≡ end) where
-          unused-next : n ≡ 0 → Nothing-stored out p r out′ → Stores-left bars text ends names-at lists-at start out′ (s + 1) r
-          unused-next z q =
-              let e = skipped z in
-              record {
-                few = omega arith;
-                fit = rw (from, is-end) (there .rest);
-                begun = rw (q .list) (l .begun);
-                lists-end = rw (q .list, from) (rw e at (l .lists-end));
-                entries-end = rw (q .entry, from) (rw e at (l .entries-end));
-                names-end = rw (q .name, from) (rw e at (l .names-end));
-                same = rw (q .list, q .entry, q .name, q .left, from) (rw e at (l .same));
-                carried = rw (q .run, from) (rw e at (l .carried));
-              }
-
-          used-next : 0 < n → Term-stored names-at lists-at (term name ps) out p r out′
-              → Stores-left bars text ends names-at lists-at start out′ (s + 1) r
-          unfolding lists-bytes
-          used-next k q =
-              let e = taken k in
-              let a = ahead k in
-              record {
-                few = omega arith;
-                fit = rw (from, is-end) (there .rest);
-                begun = omega (arith, q .list, l .begun);
-                lists-end = rw from (omega (arith, a .lists-end, q .list));
-                entries-end = rw from (omega (arith, a .entries-end, q .entry));
-                names-end = rw from (omega (arith, a .names-end, q .name));
-                same =
-                    rw from (store-next names-at lists-at (term name ps) coming out p (l .begun)
-                    (omega (arith, a .entries-end, room .directory)) (omega (arith, a .names-end, room .names, l .begun)) q)
-                    ∙ rw e at (l .same);
-                carried =
-                    rw (q .run, from) (sym (part-by-part (p .run) (list-bytes (term name ps)) (lists-bytes coming)))
-                    ∙ rw e at (l .carried);
-              }
-
-        pub stores-next : {r : Progress} {out′ : List ℕ} → Sound-stored names-at lists-at name ps n end out p r out′
-            → Stores-left bars text ends names-at lists-at start out′ (s + 1) r
-        stores-next q =
-            ⊎-elim
-            (λ (k : 0 < n). used-next (q .from) k (q .used k))
-            (λ (k : n ≤ 0). let z : n ≡ 0 = omega arith in unused-next (q .from) z (q .unused z))
-            (lt-or-ge 0 n)
+      pub stores-next : {r : Progress} {out′ : List ℕ} → Sound-stored names-at lists-at name ps n end out p r out′
+          → Stores-left bars text ends names-at lists-at start out′ (s + 1) r
+      stores-next q =
+          ⊎-elim
+          (λ (k : 0 < n). used-next (q .from) k (q .used k))
+          (λ (k : n ≤ 0). let z : n ≡ 0 = omega arith in unused-next (q .from) z (q .unused z))
+          (lt-or-ge 0 n)

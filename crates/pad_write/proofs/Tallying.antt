@@ -2,14 +2,12 @@
 -- Assumes nothing.
 use mathlib.Core.Path.{_≡_, refl, sym, ap, _∙_}
 use mathlib.Core.Bool.{true}
-use mathlib.Core.List.{List, [], _∷_, map}
+use mathlib.Core.List.{List, _∷_, map}
 use mathlib.Core.Logic.{⊎-elim}
 use mathlib.Core.Option.{Option, none, some}
-use Prim.Native.Nat.{ℕ, _+_, _-_, _≤_, _<_}
+use Prim.Native.Nat.{ℕ, _+_, _≤_, _<_}
 use native.Mathlib.Omega.{arith}
-use lib.Dec.{eqb}
-use lib.ListN.{length, drop, getD, length-append, length-drop}
-use lib.Seq.{length-take-le}
+use lib.ListN.{length, drop, length-append}
 use borrow.Author.Tests.{lt-ltb, le-ltb}
 use Rattle.common.specs.Lists.{joined}
 use Rattle.common.proofs.Loops.{lt-or-ge}
@@ -20,16 +18,14 @@ use Rattle.segment.specs.Results.{Result, ok, refuse, _>>=_, check}
 use Rattle.segment.specs.Texts.{ends-fit}
 use Rattle.segment.specs.Written.{postings-bytes, list-bytes, name-bytes, lists-bytes}
 use Rattle.segment.proofs.Accepted.{earlier-next}
-use Rattle.segment.proofs.Binds.{bind-gives, refuse-ok}
+use Rattle.segment.proofs.Binds.{refuse-ok}
 use Rattle.calls.specs.Checks.{check-name, check-postings, check-terms}
 use Rattle.calls.specs.Given.{term}
-use Rattle.calls.proofs.Parts.{ends-last}
 use Rattle.pad_map.specs.Bars.{Bar}
-use Rattle.pad_map.specs.Acts.{postings-of}
 use Rattle.pad_write.specs.declared.measure.Tally.{Tally}
 use Rattle.pad_write.specs.declared.measure.Tallied.the-variants.{Next, Refused}
 use Rattle.pad_write.specs.Steps.{terms-from, last-name, past-sound, past-term, going-on, check-sound, tallied, Tallied-all}
-use Rattle.pad_write.proofs.Sounds.{Name-there, name-there, come-end, come-used, come-unused}
+use Rattle.pad_write.proofs.Sounds.{Next-sound, come-end}
 
 -- ---- one sound
 
@@ -60,10 +56,12 @@ module _ (documents : List Document) (text : List ℕ) (n : ℕ) (ps : List Post
     tallied-used = rw (lt-ltb 0 n (omega arith))
 
     module _ {x : Refusal} where
-      pub tallied-stop : check-name (last-name text t) (between (t .from) end text) ≡ refuse x → Refused x ≡ tallied documents text n ps end t
+      pub tallied-stop : check-name (last-name text t) (between (t .from) end text) ≡ refuse x
+          → Refused x ≡ tallied documents text n ps end t
       tallied-stop e = rw (tallied-used, e)
 
-      pub tallied-list-stop : check-name (last-name text t) (between (t .from) end text) ≡ ok tt → check-postings documents none ps ≡ refuse x
+      pub tallied-list-stop : check-name (last-name text t) (between (t .from) end text) ≡ ok tt
+          → check-postings documents none ps ≡ refuse x
           → Refused x ≡ tallied documents text n ps end t
       tallied-list-stop e f = rw (tallied-used, e, f)
 
@@ -85,8 +83,10 @@ pub record Tally-left (documents : List Document) (bars : List Bar) (text ends :
   pub checks : check-terms documents (last-name text t) (terms-from bars text ends s (t .from))
       ≡ check-terms documents none (terms-from bars text ends 0 0)
   pub count : t .terms + length (terms-from bars text ends s (t .from)) ≡ length (terms-from bars text ends 0 0)
-  pub name-size : t .names + length (name-bytes (terms-from bars text ends s (t .from))) ≡ length (name-bytes (terms-from bars text ends 0 0))
-  pub list-size : t .lists + length (lists-bytes (terms-from bars text ends s (t .from))) ≡ length (lists-bytes (terms-from bars text ends 0 0))
+  pub name-size : t .names + length (name-bytes (terms-from bars text ends s (t .from)))
+      ≡ length (name-bytes (terms-from bars text ends 0 0))
+  pub list-size : t .lists + length (lists-bytes (terms-from bars text ends s (t .from)))
+      ≡ length (lists-bytes (terms-from bars text ends 0 0))
   pub lists-low : length (lists-bytes (terms-from bars text ends 0 0)) ≤ 251658240
 
 abbrev pub first-tally : Tally
@@ -105,7 +105,8 @@ term-goes (ok u) (ok v) f y e = refl
 term-goes (ok u) (refuse z) f y e = refuse-ok e
 term-goes (refuse z) q f y e = refuse-ok e
 
-module _ (documents : List Document) (previous : Option (List ℕ)) (name : List ℕ) (ps : List Posting) (h : 0 < length ps) (ts : List Term) where
+module _ (documents : List Document) (previous : Option (List ℕ)) (name : List ℕ) (ps : List Posting) (h : 0 < length ps)
+    (ts : List Term) where
   abbrev both : Result (Unit {0})
   both = check-name previous name >>= λ _. check-postings documents none ps
 
@@ -131,9 +132,6 @@ names-cons t ts = length-append (t .name) (joined (map (λ t. t .name) ts))
 pub lists-cons : (t : Term) (ts : List Term) → length (lists-bytes (t ∷ ts)) ≡ length (list-bytes t) + length (lists-bytes ts)
 unfolding lists-bytes
 lists-cons t ts = length-append (list-bytes t) (joined (map list-bytes ts))
-
-pub name-length : (text : List ℕ) (from end : ℕ) → from ≤ end → end ≤ length text → length (between from end text) ≡ end - from
-name-length text from end h k = length-take-le (end - from) (drop from text) (omega (arith, length-drop from text))
 
 module _ (documents : List Document) (bars : List Bar) (text ends : List ℕ) where
   pub tally-begin : ends-fit 0 ends (length text) ≡ true → length (lists-bytes (terms-from bars text ends 0 0)) ≤ 251658240
@@ -164,87 +162,69 @@ module _ (documents : List Document) (bars : List Bar) (text ends : List ℕ) wh
           list-size = omega (arith, rw e at (l .list-size));
         }
 
-    module _ (h : s < length ends) where
-      there : Name-there text ends s (t .from)
-      there = name-there text ends s (t .from) (l .fit) h
+    module _ {n end : ℕ} {ps : List Posting} (x : Next-sound bars text ends s (t .from) n end ps) where
+      abbrev coming : List Term
+      coming = terms-from bars text ends (s + 1) end
 
-      module _ {n end : ℕ} {ps : List Posting} (is-end : end ≡ getD ends s 0) (is-n : n ≡ length (postings-of s bars))
-          (is : ps ≡ postings-of s bars) where
-        pub name-order : t .from ≤ end
-        name-order = omega (arith, there .up)
+      pub tally-stop : {y : Refusal} → Refused y ≡ tallied documents text n ps end t
+          → check-terms documents none (terms-from bars text ends 0 0) ≡ refuse y
+      tally-stop e =
+          ⊎-elim
+          (λ (k : 0 < n).
+          let u = going-stop (check-sound documents text ps end t) _ (e ∙ tallied-used documents text n ps end t (λ z. omega arith)) in
+          sym (l .checks) ∙ ap (check-terms documents (last-name text t)) (x .taken k)
+          ∙ terms-stop documents (last-name text t) (between (t .from) end text) ps (omega (arith, x .count)) coming u)
+          (λ (k : n ≤ 0). next-stop (e ∙ sym (tallied-unused documents text n ps end t (omega arith))))
+          (lt-or-ge 0 n)
 
-        pub name-inside : end ≤ length text
-        name-inside = omega (arith, there .inside)
+      unused-next : n ≡ 0 → Tally-left documents bars text ends (s + 1) (past-sound t end)
+      unused-next z =
+          let e = x .skipped z in
+          record {
+            few = x .few;
+            fit = x .rest;
+            last-order = l .last-order;
+            last-inside = l .last-inside;
+            names-low = omega (arith, l .names-low, x .order);
+            terms-low = omega (arith, l .terms-low);
+            checks = rw e at (l .checks);
+            count = rw e at (l .count);
+            name-size = rw e at (l .name-size);
+            list-size = rw e at (l .list-size);
+            lists-low = l .lists-low;
+          }
 
-        abbrev coming : List Term
-        coming = terms-from bars text ends (s + 1) end
+      used-next : 0 < n → check-sound documents text ps end t ≡ ok tt
+          → Tally-left documents bars text ends (s + 1) (past-term t end (length (postings-bytes none ps)))
+      used-next k u =
+          let e = x .taken k in
+          let name = between (t .from) end text in
+          record {
+            few = x .few;
+            fit = x .rest;
+            last-order = x .order;
+            last-inside = x .inside;
+            names-low = omega (arith, l .names-low, x .order);
+            terms-low = omega (arith, l .terms-low);
+            checks =
+                ap (λ (p : Option (List ℕ)). check-terms documents p coming) (earlier-next (t .terms) name)
+                ∙ sym (terms-go documents (last-name text t) name ps (omega (arith, x .count)) coming u)
+                ∙ ap (check-terms documents (last-name text t)) (sym e)
+                ∙ l .checks;
+            count = omega (arith, rw e at (l .count));
+            name-size = omega (arith, rw e at (l .name-size), names-cons (term name ps) coming, x .size);
+            list-size = omega (arith, rw e at (l .list-size), lists-cons (term name ps) coming);
+            lists-low = l .lists-low;
+          }
 
-        skipped : n ≡ 0 → terms-from bars text ends s (t .from) ≡ coming
-        skipped z = come-unused bars text ends s (t .from) h (there .up) (omega arith) ∙ rw is-end
-
-        taken : 0 < n → terms-from bars text ends s (t .from) ≡ term (between (t .from) end text) ps ∷ coming
-        taken k = come-used bars text ends s (t .from) h (there .up) (omega arith) ∙ rw (is-end, is)
-
-        pub tally-stop : {x : Refusal} → Refused x ≡ tallied documents text n ps end t
-            → check-terms documents none (terms-from bars text ends 0 0) ≡ refuse x
-        tally-stop e =
-            ⊎-elim
-            (λ (k : 0 < n).
-            let u = going-stop (check-sound documents text ps end t) _ (e ∙ tallied-used documents text n ps end t (λ z. omega arith)) in
-            sym (l .checks) ∙ ap (check-terms documents (last-name text t)) (taken k)
-            ∙ terms-stop documents (last-name text t) (between (t .from) end text) ps (rw is (omega arith)) coming u)
-            (λ (k : n ≤ 0). next-stop (e ∙ sym (tallied-unused documents text n ps end t (omega arith))))
-            (lt-or-ge 0 n)
-
-        unused-next : n ≡ 0 → Tally-left documents bars text ends (s + 1) (past-sound t end)
-        unused-next z =
-            let e = skipped z in
-            record {
-              few = omega arith;
-              fit = rw is-end (there .rest);
-              last-order = l .last-order;
-              last-inside = l .last-inside;
-              names-low = omega (arith, l .names-low, name-order);
-              terms-low = omega (arith, l .terms-low);
-              checks = rw e at (l .checks);
-              count = rw e at (l .count);
-              name-size = rw e at (l .name-size);
-              list-size = rw e at (l .list-size);
-              lists-low = l .lists-low;
-            }
-
-        used-next : 0 < n → check-sound documents text ps end t ≡ ok tt
-            → Tally-left documents bars text ends (s + 1) (past-term t end (length (postings-bytes none ps)))
-        used-next k u =
-            let e = taken k in
-            let name = between (t .from) end text in
-            let size = name-length text (t .from) end name-order name-inside in
-            record {
-              few = omega arith;
-              fit = rw is-end (there .rest);
-              last-order = name-order;
-              last-inside = name-inside;
-              names-low = omega (arith, l .names-low, name-order);
-              terms-low = omega (arith, l .terms-low);
-              checks =
-                  ap (λ (p : Option (List ℕ)). check-terms documents p coming) (earlier-next (t .terms) name)
-                  ∙ sym (terms-go documents (last-name text t) name ps (rw is (omega arith)) coming u)
-                  ∙ ap (check-terms documents (last-name text t)) (sym e)
-                  ∙ l .checks;
-              count = omega (arith, rw e at (l .count));
-              name-size = omega (arith, rw e at (l .name-size), names-cons (term name ps) coming, size);
-              list-size = omega (arith, rw e at (l .list-size), lists-cons (term name ps) coming);
-              lists-low = l .lists-low;
-            }
-
-        pub tally-next : {t′ : Tally} → Next t′ ≡ tallied documents text n ps end t → Tally-left documents bars text ends (s + 1) t′
-        tally-next {t′} e =
-            ⊎-elim
-            (λ (k : 0 < n).
-            let (u, is-t) =
-            going-next (check-sound documents text ps end t) _ (e ∙ tallied-used documents text n ps end t (λ z. omega arith)) in
-            rw is-t (used-next k u))
-            (λ (k : n ≤ 0).
-            let is-t : t′ ≡ past-sound t end = same-tally (e ∙ sym (tallied-unused documents text n ps end t (omega arith))) in
-            rw is-t (unused-next (omega arith)))
-            (lt-or-ge 0 n)
+      pub tally-next : {t′ : Tally} → Next t′ ≡ tallied documents text n ps end t → Tally-left documents bars text ends (s + 1) t′
+      tally-next {t′} e =
+          ⊎-elim
+          (λ (k : 0 < n).
+          let (u, is-t) =
+          going-next (check-sound documents text ps end t) _ (e ∙ tallied-used documents text n ps end t (λ z. omega arith)) in
+          rw is-t (used-next k u))
+          (λ (k : n ≤ 0).
+          let is-t : t′ ≡ past-sound t end = same-tally (e ∙ sym (tallied-unused documents text n ps end t (omega arith))) in
+          rw is-t (unused-next (omega arith)))
+          (lt-or-ge 0 n)

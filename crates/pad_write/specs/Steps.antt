@@ -37,7 +37,7 @@ terms-from bars text ends s from = terms-of s (names from (drop s ends) (drop fr
 
 -- ---- a sound's postings in lists
 
--- what is gathered lies in the lists, which are no longer than a pad asks for
+-- what is gathered lies in the lists, and is no more than a pad holds
 pub record In-lists (posting-ids counts positions : List ℕ) (got : Gathered) : Type 0 where
   pub ids-there : got .postings ≤ length posting-ids
   pub counts-there : got .postings ≤ length counts

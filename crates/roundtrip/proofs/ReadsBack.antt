@@ -29,7 +29,7 @@ use Rattle.roundtrip.proofs.DirectoryBack.{directory-back}
 use Rattle.roundtrip.proofs.OpeningBack.{opens}
 
 -- a bound of every place bounds every member
-member-below : (n : ℕ) (xs : List ℕ) → Below n xs → (x : ℕ) → x ∈ xs → x < n
+pub member-below : (n : ℕ) (xs : List ℕ) → Below n xs → (x : ℕ) → x ∈ xs → x < n
 member-below n [] h x m = absurd m
 member-below n (y ∷ ys) h x (inl e) = omega (arith, h 0)
 member-below n (y ∷ ys) h x (inr m) = member-below n ys (λ i. h (suc i)) x m

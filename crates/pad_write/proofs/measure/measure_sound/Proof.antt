@@ -1,6 +1,6 @@
 -- A sound without hits is passed over; one with hits passes its name's check, then its postings', or stops at the first refusal.
 -- Assumes nothing.
-use mathlib.Core.Path.{_≡_, refl, sym, _∙_}
+use mathlib.Core.Path.{_≡_, sym, _∙_}
 use mathlib.Core.List.{List}
 use mathlib.Core.Option.{none}
 use native.Mathlib.Omega.{arith}
@@ -80,7 +80,8 @@ enum-known-x c = search needs
 returns-2 : tie.Need-returns-2
 returns-2 c =
     let n = c .before .before .before in
-    tallied-stop _ _ _ _ _ _ (n .before .before .before .before .if1 .left) (refused-is _ (sym (c .before .x .given .1) ∙ n .check-name .ensures))
+    tallied-stop _ _ _ _ _ _ (n .before .before .before .before .if1 .left)
+    (refused-is _ (sym (c .before .x .given .1) ∙ n .check-name .ensures))
 
 enum-told : tie.Need-enum-told
 enum-told c = search needs

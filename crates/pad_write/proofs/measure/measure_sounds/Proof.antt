@@ -1,7 +1,7 @@
 -- What is measured and the terms of the sounds still to come make the whole: Tally-left.
 -- Assumes nothing.
-use mathlib.Core.Path.{_≡_, refl, sym, ap, _∙_}
-use Prim.Native.Nat.{_+_, _-_}
+use mathlib.Core.Path.{sym, _∙_}
+use Prim.Native.Nat.{_-_}
 use native.Mathlib.Numerals.{add-one}
 use native.Mathlib.Omega.{arith}
 use lib.ListN.{length}
@@ -11,10 +11,12 @@ use Rattle.common.specs.Lists.{paired}
 use Rattle.segment.specs.Metadata.{document}
 use Rattle.pad_words.specs.Words.{held}
 use Rattle.pad_lists.specs.Steps.{Cursors, Places}
+use Rattle.pad_lists.proofs.Cursors.{cursors-zeros}
 use Rattle.pad_write.specs.Steps.{terms-from}
 use Rattle.pad_write.proofs.Bounds.{documents-match, ids-rise, lists-low}
-use Rattle.pad_write.proofs.Parts.{in-lists, cursors-first, places-first, places-long}
-use Rattle.pad_write.proofs.Tallying.{Tally-left, tally-begin, tally-done, name-order, name-inside, tally-stop, tally-next}
+use Rattle.pad_write.proofs.Parts.{in-lists, places-first, places-long}
+use Rattle.pad_write.proofs.Sounds.{next-sound}
+use Rattle.pad_write.proofs.Tallying.{Tally-left, tally-begin, tally-done, tally-stop, tally-next}
 use Rattle.pad_write.proofs.measure.measure_sounds.Statement.{statement}
 use Rattle.pad_write.proofs.measure.measure_sounds.Tie as tie
 
@@ -35,13 +37,21 @@ entry c = c .before .before .before .before .before .before
 abbrev turn : tie.After-gather-sound Inv-loop μ-loop → tie.In-loop Inv-loop μ-loop
 turn c = c .before .before .before .before .before .before .before
 
+-- its name's end was read before
+abbrev named : tie.After-gather-sound Inv-loop μ-loop → tie.After-long Inv-loop μ-loop
+named c = c .before .before .before .before .before
+
+-- and it was measured afterwards
+abbrev got-in : tie.After-measure-sound Inv-loop μ-loop → tie.After-gather-sound Inv-loop μ-loop
+got-in c = c .before .before .before .before .before .before .before
+
 loop-holds : tie.Need-loop-holds Inv-loop μ-loop
 unfolding terms-from
 loop-holds c =
     let a = c .before .before .before .before .before in
     let p = a .pre .0 in (
       tally-begin _ _ _ _ (p .fit) (lists-low _ (p .whole-pad) _ _ (p .short) (p .sounds) (p .fit)),
-      cursors-first _,
+      cursors-zeros _ 256,
       places-first (p .long),
     )
 
@@ -66,17 +76,16 @@ measure-sound-requires : tie.Need-measure-sound-requires Inv-loop μ-loop
 measure-sound-requires c κs =
     let g = c .before .before .before .before .before .before in
     let t = turn g in
-    let l = t .before in
-    let a = entry l in
-    let v = l .loop .inv .0 in
+    let a = entry (t .before) in
+    let v = t .before .loop .inv .0 in
     let e = g .gather-sound .ensures in
-    let is-end = g .before .before .before .before .before .long .ensures in
+    let x = next-sound _ (now (a .args .text)) _ _ _ (v .fit) (t .loop-test .taken) (named g .long .ensures) (e .count) (e .postings) in
     record {
       rises = rw (a .pre .1 .ids-are) (ids-rise _ (a .pre .0 .whole-pad));
       documents = documents-match (a .pre .1);
       lists = in-lists e;
-      name-order = name-order _ _ _ _ _ _ v (t .loop-test .taken) is-end (e .count) (e .postings);
-      name-inside = name-inside _ _ _ _ _ _ v (t .loop-test .taken) is-end (e .count) (e .postings);
+      name-order = x .order;
+      name-inside = x .inside;
       last-order = v .last-order;
       last-inside = v .last-inside;
       names-low = v .names-low;
@@ -94,20 +103,19 @@ returns : tie.Need-returns Inv-loop μ-loop
 unfolding terms-from
 returns c =
     let m = c .before .before .before in
-    let g = m .before .before .before .before .before .before .before in
+    let g = got-in m in
     let t = turn g in
+    let v = t .before .loop .inv .0 in
     let e = g .gather-sound .ensures in
+    let x = next-sound _ _ _ _ _ (v .fit) (t .loop-test .taken) (named g .long .ensures) (e .count) (e .postings) in
     record {
-      answer =
-          tally-stop _ _ _ _ _ _ (t .before .loop .inv .0) (t .loop-test .taken) (g .before .before .before .before .before .long .ensures)
-          (e .count) (e .postings)
-          (sym (c .before .x .given .1) ∙ m .measure-sound .ensures);
+      answer = tally-stop _ _ _ _ _ _ v x (sym (c .before .x .given .1) ∙ m .measure-sound .ensures);
       long = places-long (e .places);
     }
 
 add-sound : tie.Need-add-sound Inv-loop μ-loop
 add-sound c =
-    let t = turn (c .before .before .before .before .before .before .before .before .before .before) in
+    let t = turn (got-in (c .before .before .before)) in
     omega (arith, t .loop-test .taken, entry (t .before) .pre .0 .sounds)
 
 loop-less : tie.Need-loop-less Inv-loop μ-loop
@@ -116,12 +124,12 @@ loop-less c = search needs
 loop-again : tie.Need-loop-again Inv-loop μ-loop
 loop-again c =
     let m = c .before .before .before in
-    let g = m .before .before .before .before .before .before .before in
+    let g = got-in m in
     let t = turn g in
-    let e = g .gather-sound .ensures in (
-      tally-next _ _ _ _ _ _ (t .before .loop .inv .0) (t .loop-test .taken) (g .before .before .before .before .before .long .ensures)
-          (e .count) (e .postings)
-          (sym (c .before .next .given .1) ∙ m .measure-sound .ensures),
+    let v = t .before .loop .inv .0 in
+    let e = g .gather-sound .ensures in
+    let x = next-sound _ _ _ _ _ (v .fit) (t .loop-test .taken) (named g .long .ensures) (e .count) (e .postings) in (
+      tally-next _ _ _ _ _ _ v x (sym (c .before .next .given .1) ∙ m .measure-sound .ensures),
       rw (add-one (t .before .loop .sound)) (e .cursors),
       e .places,
     )

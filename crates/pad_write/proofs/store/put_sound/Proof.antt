@@ -1,8 +1,7 @@
 -- A sound without hits leaves the slice; one with hits leaves its list, its entry and its name.
 -- Assumes nothing.
-use mathlib.Core.Path.{_≡_, refl, sym, _∙_}
+use mathlib.Core.Path.{sym}
 use native.Mathlib.Omega.{arith}
-use denote.Ref.{now}
 use borrow.Author.Needs.{needs}
 use Rattle.pad_write.proofs.Parts.{ids-size, counts-size, positions-size, side-by-side, positions-enough}
 use Rattle.pad_write.proofs.One-sound.{sound-unused, list-room, entry-room, name-room, sound-used}

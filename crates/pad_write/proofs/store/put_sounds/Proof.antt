@@ -1,18 +1,17 @@
 -- Once the terms of the sounds still to come are stored too, all are: Stores-left.
 -- Assumes nothing.
-use mathlib.Core.Path.{_≡_, refl, sym, ap, _∙_}
-use Prim.Native.Nat.{_+_, _-_}
+use Prim.Native.Nat.{_-_}
 use native.Mathlib.Numerals.{add-one}
 use native.Mathlib.Omega.{arith}
 use lib.ListN.{length}
-use denote.Ref.{now}
 use borrow.Author.Needs.{needs}
 use Rattle.pad_words.specs.Words.{held}
 use Rattle.pad_lists.specs.Steps.{Cursors, Places}
+use Rattle.pad_lists.proofs.Cursors.{cursors-zeros}
 use Rattle.pad_write.specs.Steps.{terms-from}
-use Rattle.pad_write.proofs.Parts.{in-lists, cursors-first, places-first}
-use Rattle.pad_write.proofs.Storing.{Stores-left, stores-begin, stores-length, stores-done, stores-order, stores-inside, term-room}
-use Rattle.pad_write.proofs.Storing.{stores-next}
+use Rattle.pad_write.proofs.Parts.{in-lists, places-first}
+use Rattle.pad_write.proofs.Sounds.{next-sound}
+use Rattle.pad_write.proofs.Storing.{Stores-left, stores-begin, stores-length, stores-done, term-room, stores-next}
 use Rattle.pad_write.proofs.store.put_sounds.Statement.{statement}
 use Rattle.pad_write.proofs.store.put_sounds.Tie as tie
 
@@ -35,7 +34,11 @@ entry c = c .before .before .before .before .before
 abbrev turn : tie.After-gather-sound Inv-loop μ-loop → tie.In-loop Inv-loop μ-loop
 turn c = c .before .before .before .before .before .before .before
 
--- the one in which a sound was stored
+-- its name's end was read before
+abbrev named : tie.After-gather-sound Inv-loop μ-loop → tie.After-long Inv-loop μ-loop
+named c = c .before .before .before .before .before
+
+-- and it was stored afterwards
 abbrev got-in : tie.After-put-sound Inv-loop μ-loop → tie.After-gather-sound Inv-loop μ-loop
 got-in c = c .before .before .before .before .before .before .before .before
 
@@ -45,7 +48,7 @@ loop-holds c =
     let a = c .before .before .before .before in
     let p = a .pre .0 in (
       stores-begin _ _ _ _ _ _ (a .pre .1) (p .fit),
-      cursors-first _,
+      cursors-zeros _ 256,
       places-first (p .long),
     )
 
@@ -72,15 +75,14 @@ put-sound-requires c κs =
     let g = c .before .before .before .before .before .before .before in
     let t = turn g in
     let l = t .before in
-    let r = entry l .pre .1 in
     let v = l .loop .inv .0 in
     let e = g .gather-sound .ensures in
-    let is-end = g .before .before .before .before .before .long .ensures in
+    let x = next-sound _ _ _ _ _ (v .fit) (t .loop-test .taken) (named g .long .ensures) (e .count) (e .postings) in
     record {
       lists = in-lists e;
-      name-order = stores-order _ _ _ _ _ _ r _ _ _ v (t .loop-test .taken) is-end (e .count) (e .postings);
-      name-inside = stores-inside _ _ _ _ _ _ r _ _ _ v (t .loop-test .taken) is-end (e .count) (e .postings);
-      used = term-room _ _ _ _ _ _ r _ _ _ v (t .loop-test .taken) is-end (e .count) (e .postings);
+      name-order = x .order;
+      name-inside = x .inside;
+      used = term-room _ _ _ _ _ _ (entry l .pre .1) _ _ _ v x;
     }
 
 add-sound : tie.Need-add-sound Inv-loop μ-loop
@@ -98,9 +100,10 @@ loop-again c =
     let g = got-in m in
     let t = turn g in
     let l = t .before in
-    let e = g .gather-sound .ensures in (
-      stores-next _ _ _ _ _ _ (entry l .pre .1) _ _ _ (l .loop .inv .0) (t .loop-test .taken)
-          (g .before .before .before .before .before .long .ensures) (e .count) (e .postings) (m .put-sound .ensures),
+    let v = l .loop .inv .0 in
+    let e = g .gather-sound .ensures in
+    let x = next-sound _ _ _ _ _ (v .fit) (t .loop-test .taken) (named g .long .ensures) (e .count) (e .postings) in (
+      stores-next _ _ _ _ _ _ (entry l .pre .1) _ _ _ v x (m .put-sound .ensures),
       rw (add-one (l .loop .sound)) (e .cursors),
       e .places,
     )

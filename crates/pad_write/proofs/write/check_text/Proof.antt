@@ -1,6 +1,5 @@
 -- Each test that sends the code on leaves the next one to decide.
 -- Assumes nothing.
-use mathlib.Core.Path.{_≡_, sym, ap, _∙_}
 use native.Mathlib.Omega.{arith}
 use borrow.Author.Needs.{needs}
 use borrow.Author.Tests.{not-true, not-false}
@@ -26,7 +25,7 @@ list-shape-requires c κs = search needs
 returns-3 : tie.Need-returns-3
 returns-3 c =
     rw (c .list-shape .ensures)
-    (ends-other _ _ (c .before .before .before .if1 .left) (c .before .before .if2 .left) (c .before .if3 .taken))
+    (ends-other _ _ (c .before .before .before .if1 .left) (c .before .before .if2 .left) (λ e. omega (arith, e, c .before .if3 .taken)))
 
 ends-fit-requires : tie.Need-ends-fit-requires
 ends-fit-requires c κs = search needs

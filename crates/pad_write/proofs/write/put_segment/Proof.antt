@@ -1,8 +1,6 @@
 -- The sections lie apart, so each is as it was stored when the header is made over them.
 -- Assumes nothing.
-use mathlib.Core.Path.{_≡_, refl, sym, ap, _∙_}
 use native.Mathlib.Omega.{arith}
-use denote.Ref.{now}
 use borrow.Author.Needs.{needs}
 use Rattle.pad_map.specs.Acts.{given-of}
 use Rattle.pad_write.proofs.Answered.{documents-given, documents-count, names-small, few-documents, few-terms}
@@ -56,7 +54,9 @@ unfolding given-of
 returns c =
     let m = c .before .before .before .before .before .before in
     let s = sounds m in
-    segment-stored _ _ _ _ (entry s .pre .2) (s .put-sounds .ensures) (rw (documents-given (entry s .pre .1)) at (m .put-metadata .ensures)) (documents-count (entry s .pre .1))
+    segment-stored _ _ _ _ (entry s .pre .2) (s .put-sounds .ensures)
+    (rw (documents-given (entry s .pre .1)) at (m .put-metadata .ensures))
+    (documents-count (entry s .pre .1))
     (c .before .before .put-header .ensures)
 
 pub put-segment-spec : {M : Type 1} → statement M

@@ -1,14 +1,13 @@
 -- The offsets are those of the definition, since what was measured has its length.
 -- Assumes nothing.
-use mathlib.Core.Path.{_≡_, refl, sym, _∙_}
-use mathlib.Core.Option.{none}
+use mathlib.Core.Path.{refl}
 use native.Mathlib.Omega.{arith}
 use denote.Ref.{now}
 use borrow.Author.Needs.{needs}
 use Rattle.common.specs.Lists.{paired}
 use Rattle.segment.specs.Metadata.{document}
 use Rattle.pad_write.specs.Steps.{Tallied-all}
-use Rattle.pad_write.proofs.Answered.{Sizes-low, sizes-low, few-documents, sounds-refused, sounds-room, sounds-no-room, sounds-written}
+use Rattle.pad_write.proofs.Answered.{Sizes-low, sizes-low, sounds-refused, sounds-room, sounds-no-room, sounds-written}
 use Rattle.pad_write.proofs.Bounds.{documents-match, pad-terms}
 use Rattle.pad_write.proofs.write.write_sounds.Statement.{statement}
 use Rattle.pad_write.proofs.write.write_sounds.Tie as tie
