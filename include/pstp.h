@@ -137,7 +137,7 @@ enum {
     PSTP_REASON_WRITTEN_POSITION_EXCEEDS_LENGTH = 21
 };
 
-/* Limits. Segments and lent buffers have none. */
+/* Limits. Segments and lent buffers have none; a pad has PSTP_PAD_WORDS words. */
 #define PSTP_LIMIT 16777216 /* elements of a list, text or MIDI file that is passed in */
 #define PSTP_NAMES 128      /* names of a question */
 #define PSTP_SHEET_STEPS 64 /* steps of a bar on a sheet */
@@ -484,8 +484,8 @@ pstp_reply pstp_pad_read(const uint32_t *pad, size_t pad_len, uint32_t id, uint8
  * its sounds, by increasing number. A sound without hits is left out.
  * first: the segment's length in bytes.
  *
- *  text, ends  the names of the 128 sounds by number, as the names of a question. A name of a sound without hits may be anything; the
- *              others increase strictly in byte order
+ *  text, ends  the names of the 128 sounds by number, laid out as the names of a question. A name of a sound without hits may be
+ *              anything; the others are UTF-8, not empty, and increase strictly in byte order
  *
  * Always enough for out: 129,608 + text_len (a bar takes at most 10 bytes, a hit 15, a sound 32 and its name).
  * Refusals: 20; 12 for text and ends; 11 (not 128 ends, or ends that decrease or do not end at the text's length); for each sound that has

@@ -1,2 +1,2 @@
--- What only proofs need:
+-- What the contracts between crates speak of, and proofs need:
 pub mod Steps

@@ -3,3 +3,4 @@ pub mod Lookups
 pub mod Mapped
 pub mod Ordered
 pub mod Saved
+pub mod Room

@@ -20,7 +20,7 @@ use Rattle.pad_map.specs.Bars.{Bar, lookup, insert, without, hits-in-all
 use Rattle.pad_map.specs.Claims.{ids, Added, Taken-out, Added-rises, Taken-out-rises}
 use Rattle.pad_map.proofs.Lookups.{lookup-here, lookup-later}
 
-some-none : {A B : Type 0} {x : A} → some x ≡ none → B
+pub some-none : {A B : Type 0} {x : A} → some x ≡ none → B
 some-none e = let w : _≡_ {A = ℕ} 0 1 = cc in absurd (omega arith)
 
 -- ---- a bar at a time

@@ -1,14 +1,15 @@
 -- What is claimed of the map; proved in proofs/.
-use Prim.Native.Nat.{ℕ, _+_, _≤_, _<_}
+use Prim.Native.Nat.{ℕ, suc, _+_, _≤_, _<_}
 use mathlib.Core.Path.{_≡_}
 use mathlib.Core.Bool.{true, cond}
 use mathlib.Core.List.{List, map}
-use mathlib.Core.Logic.{_↔_}
+use mathlib.Core.Logic.{_↔_, _⊎_}
 use mathlib.Core.Option.{none, some}
 use lib.Dec.{eqb}
 use lib.ListN.{length}
 use Rattle.common.specs.Elements.{Rising}
-use Rattle.segment.specs.Results.{ok}
+use Rattle.segment.specs.Refusals.{pad-full}
+use Rattle.segment.specs.Results.{ok, refuse}
 use Rattle.pad_map.specs.Bars.{Hit, Bar, hits-in, lookup, insert, without, hits-in-all}
 use Rattle.pad_map.specs.Rules.{Comes-before, Hits-fine, before, hits-fine, check-hits}
 use Rattle.pad_map.specs.Acts.{save}
@@ -56,3 +57,14 @@ abbrev pub Saves-exactly : Type 0
 Saves-exactly = (bars : List Bar) (id len : ℕ) (sounds steps : List ℕ) → Lists-well len sounds steps
     → ((after : List Bar) × (save bars id len sounds steps ≡ ok after))
     ↔ ((lookup bars id ≡ none) × (length bars < 256) × (hits-in-all bars + length sounds ≤ 8192))
+
+-- 19 is answered exactly where all other tests pass and the numbers of bars and hits held do not allow the bar
+abbrev pub Full-exactly : Type 0
+Full-exactly = (bars : List Bar) (id len : ℕ) (sounds steps : List ℕ)
+    → (save bars id len sounds steps ≡ refuse pad-full)
+    ↔ ((lookup bars id ≡ none) × Lists-well len sounds steps × ((256 ≤ length bars) ⊎ (8192 < hits-in-all bars + length sounds)))
+
+-- the room of an erased bar serves the next: one bar less, and its hits less
+abbrev pub Room-given-back : Type 0
+Room-given-back = (bars : List Bar) (id : ℕ) (b : Bar) → Rising (ids bars) → lookup bars id ≡ some b
+    → (suc (length (without id bars)) ≡ length bars) × (length (b .hits) + hits-in-all (without id bars) ≡ hits-in-all bars)

@@ -51,7 +51,7 @@ hits-fine len previous (h ∷ hs) = hit-fine len previous h && hits-fine len (so
 
 -- ---- what is handed to saving: sounds and steps side by side, each test over all hits before the next
 
--- no number is above another
+-- every number is at most `high`
 unfoldable pub all-up-to : (high : ℕ) → List ℕ → Bool
 all-up-to high [] = true
 all-up-to high (x ∷ xs) = leb x high && all-up-to high xs

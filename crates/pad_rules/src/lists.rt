@@ -18,7 +18,7 @@ ghost use Rattle.pad_map.specs.Rules.{all-up-to, hits-rise, all-below, check-hi
 // The highest sound.
 pub const HIGHEST_SOUND: u8 = 127;
 
-// Whether no number is above another.
+// Whether every number is at most `high`.
 fn is_up_to(xs: &[u8], high: u8) -> bool
     ensures { λ r. ⌜ r ≡ all-up-to high (was xs) ⌝ }
 {

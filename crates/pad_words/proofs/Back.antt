@@ -1,6 +1,6 @@
--- What is stored is held.
+-- What is stored is held, and what is held is stored.
 -- Assumes nothing.
-use mathlib.Core.Path.{_≡_, refl, ap, _∙_}
+use mathlib.Core.Path.{_≡_, refl, sym, ap, _∙_}
 use mathlib.Core.Bool.{true}
 use mathlib.Core.List.{List, [], _∷_, _++_, append-assoc}
 use mathlib.Core.Option.{none}
@@ -12,9 +12,10 @@ use borrow.Author.Tests.{le-leb, eq-eqb}
 use Rattle.pad_map.specs.Bars.{Hit, Bar, hits-in-all}
 use Rattle.pad_words.specs.Words.{pad-words, size, hit-words, bar-words, stored, hits-of, bars-of, held}
 use Rattle.pad_words.specs.Whole.{bars-fine, whole}
-use Rattle.pad_words.specs.Claims.{Held-stored}
-use Rattle.pad_words.proofs.Wholes.{size-is}
-use Rattle.pad_words.proofs.Words.{hit-words-length, bar-words-length}
+use Rattle.pad_words.specs.Claims.{Held-stored, Stored-held}
+use Rattle.pad_words.proofs.Wholes.{held-many, size-is, inside}
+use Rattle.pad_words.proofs.Exactly.{whole-exactly}
+use Rattle.pad_words.proofs.Words.{hit-words-length, bar-words-length, words-are}
 
 hits-back : (hs : List Hit) (free : List ℕ) → hits-of (length hs) (hit-words hs ++ free) ≡ hs
 unfolding hits-of
@@ -35,6 +36,10 @@ bars-back (b ∷ bs) free =
 pub held-stored : Held-stored
 unfolding held stored
 held-stored bars pad = bars-back bars (drop (2 + size bars) pad)
+
+pub stored-held : Stored-held
+unfolding stored
+stored-held pad w = rw (held-many pad, w .total) (sym (words-are pad (inside pad (whole-exactly pad .1 w))))
 
 module _ (bars : List Bar) (pad : List ℕ) where
   pub length-stored : 2 + size bars ≤ length pad → length (stored bars pad) ≡ length pad

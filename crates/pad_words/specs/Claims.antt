@@ -17,6 +17,10 @@ Whole-exactly = (pad : List ℕ) → (whole pad ≡ true) ↔ Whole pad
 abbrev pub Held-stored : Type 0
 Held-stored = (bars : List Bar) (pad : List ℕ) → held (stored bars pad) ≡ bars
 
+-- the words of a pad are those of the map that they hold
+abbrev pub Stored-held : Type 0
+Stored-held = (pad : List ℕ) → Whole pad → stored (held pad) pad ≡ pad
+
 -- words that are all zero are the empty pad
 pub record Empty (pad : List ℕ) : Type 0 where
   pub words : length pad ≡ pad-words

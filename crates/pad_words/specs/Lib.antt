@@ -4,5 +4,5 @@ pub mod Whole
 pub mod Calls
 -- What is claimed of the definitions:
 pub mod Claims
--- What only proofs need:
+-- What the contracts between crates speak of, and proofs need:
 pub mod Steps

@@ -13,8 +13,8 @@ use Rattle.pad_map.specs.Rules.{Hits-fine, hits-fine}
 use Rattle.pad_words.specs.Words.{pad-words, held}
 
 -- As many words as a pad has, within the two limits; no id twice, since ids rise; every bar's hits within the rules for saving; and as many
--- hits as word 1 says: a higher number would count hits of no bar's, a lower one leave hits in places that are free. No two bars share a
--- place, as each begins where the one before ends
+-- hits as word 1 says: a higher number would count hits of no bar's, a lower one would leave hits in places the pad does not have. No two
+-- bars share a place, as each begins where the one before ends
 pub record Whole (pad : List ℕ) : Type 0 where
   pub words : length pad ≡ pad-words
   pub bars : getD pad 0 0 ≤ 256

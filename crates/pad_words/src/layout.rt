@@ -4,5 +4,8 @@ pub const BARS: usize = 256;
 
 pub const HITS: usize = 8192;
 
+// Sounds are 0 to 127.
+pub const SOUNDS: usize = 128;
+
 // 2 words, 3 for each bar, 2 for each hit.
 pub const WORDS: usize = 17154;

@@ -39,7 +39,7 @@ use Rattle.pad_words.proofs.Wholes.{held-many}
 use Rattle.pad_lists.specs.Steps.{Documents-gathered}
 use Rattle.pad_write.specs.declared.measure.Tally.{Tally}
 use Rattle.pad_write.specs.Promise.{Pad-written}
-use Rattle.pad_write.specs.Steps.{Tallied-all, Documents-given, Soundable, check-text, Segment-room, Segment-stored}
+use Rattle.pad_write.specs.Steps.{Tallied-all, Documents-given, Pad-and-names, check-text, Segment-room, Segment-stored}
 use Rattle.pad_write.proofs.Bounds.{Few, documents-of, documents-are, bars-few, pad-terms, pad-given, terms-few, checks-are}
 use Rattle.pad_write.proofs.Bounds.{lists-low}
 
@@ -63,7 +63,7 @@ documents-front {pad} d is =
     record { ids-are = rw bars (d .ids); lengths-are = rw bars (d .lengths) }
 
 -- at most 256 bars and 128 sounds
-module _ {pad text ends posting-ids counts positions : List ℕ} (q : Soundable pad text ends posting-ids counts positions) where
+module _ {pad text ends posting-ids counts positions : List ℕ} (q : Pad-and-names pad text ends posting-ids counts positions) where
   pub few-documents : {ids lengths : List ℕ} → Documents-given pad ids lengths → length ids ≤ 256
   few-documents d = omega (arith, ids-count d, bars-few pad (q .whole-pad))
 
@@ -78,7 +78,7 @@ module _ {pad text ends posting-ids counts positions : List ℕ} (q : Soundable 
 
 -- ---- the writer's answers of the pad's lists
 
-module _ (pad text ends : List ℕ) {posting-ids counts positions : List ℕ} (q : Soundable pad text ends posting-ids counts positions)
+module _ (pad text ends : List ℕ) {posting-ids counts positions : List ℕ} (q : Pad-and-names pad text ends posting-ids counts positions)
     {ids lengths : List ℕ} (d : Documents-given pad ids lengths) (out : List ℕ) where
   abbrev handed : Lists
   handed = laid-flat (pad-given pad text ends)

@@ -187,7 +187,7 @@ pub record Lists-long (posting-ids counts positions : List ℕ) : Type 0 where
   pub positions-long : length positions ≡ 8192
 
 -- what both passes rest on: a pad that is whole, a name for each sound, and lists to hold one sound
-pub record Soundable (pad text ends posting-ids counts positions : List ℕ) : Type 0 where
+pub record Pad-and-names (pad text ends posting-ids counts positions : List ℕ) : Type 0 where
   pub whole-pad : whole pad ≡ true
   pub short : length text ≤ 16777216
   pub sounds : length ends ≡ 128

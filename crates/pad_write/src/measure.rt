@@ -15,7 +15,7 @@ ghost use Rattle.segment.specs.Metadata.{document};
 ghost use Rattle.segment.specs.Texts.{names};
 ghost use Rattle.pad_map.specs.Acts.{terms-of};
 ghost use Rattle.pad_words.specs.Words.{held};
-ghost use Rattle.pad_write.specs.Steps.{gathered, tallied, Sound-measurable, Soundable, Documents-given, Sounds-measured};
+ghost use Rattle.pad_write.specs.Steps.{gathered, tallied, Sound-measurable, Pad-and-names, Documents-given, Sounds-measured};
 
 // The sounds with hits so far: how many, the bytes of their names and posting lists, and where the last one's name lies in the text. The
 // next sound's name starts at `from`, whether or not it has hits.
@@ -102,7 +102,7 @@ pub fn measure_sounds(
     counts: &mut [u32; 256],
     positions: &mut [u32; 8192],
 ) -> Tallied
-    requires { ⌜ Soundable (now pad) (now text) (now ends) (now «posting_ids») (now counts) (now positions)
+    requires { ⌜ Pad-and-names (now pad) (now text) (now ends) (now «posting_ids») (now counts) (now positions)
         × Documents-given (now pad) (now ids) (now lengths) ⌝ }
     ensures { λ r. ⌜ Sounds-measured (paired document (was ids) (was lengths))
         (terms-of 0 (names 0 (was ends) (was text)) (held (was pad))) r (left «posting_ids») (left counts) (left positions) ⌝ }

@@ -14,7 +14,7 @@ ghost use Rattle.segment.specs.Records.{between};
 ghost use Rattle.segment.specs.Texts.{names};
 ghost use Rattle.pad_map.specs.Acts.{terms-of};
 ghost use Rattle.pad_words.specs.Words.{held};
-ghost use Rattle.pad_write.specs.Steps.{gathered, Sound-room, Sound-stored, Soundable, Terms-room, Terms-stored};
+ghost use Rattle.pad_write.specs.Steps.{gathered, Sound-room, Sound-stored, Pad-and-names, Terms-room, Terms-stored};
 
 // Where the next list and its directory entry are stored, how many bytes of names are stored, the remainder of the lists' checksum, and
 // where the next sound's name starts in the text.
@@ -91,7 +91,7 @@ pub fn put_sounds(
     names_at: usize,
     lists_at: usize,
 ) -> u32
-    requires { ⌜ Soundable (now pad) (now text) (now ends) (now «posting_ids») (now counts) (now positions)
+    requires { ⌜ Pad-and-names (now pad) (now text) (now ends) (now «posting_ids») (now counts) (now positions)
         × Terms-room «names_at» «lists_at» (terms-of 0 (names 0 (now ends) (now text)) (held (now pad))) (now out) ⌝ }
     ensures { λ r. ⌜ Terms-stored «names_at» «lists_at» (terms-of 0 (names 0 (was ends) (was text)) (held (was pad))) (was out) r
         (left out) ⌝ }

@@ -6,6 +6,7 @@ use crate::store::put_sounds;
 use common::widths::long;
 use pad_lists::documents::gather_documents;
 use pad_words::check::is_whole;
+use pad_words::layout::SOUNDS;
 use segment::checked::Checked;
 use segment::fixed::ENTRY_SIZE;
 use segment::fixed::HEADER_SIZE;
@@ -28,7 +29,7 @@ ghost use Rattle.calls.specs.Given.{laid-flat};
 ghost use Rattle.pad_map.specs.Acts.{given-of};
 ghost use Rattle.pad_words.specs.Words.{held};
 ghost use Rattle.write_segment.specs.Promise.{Wrote};
-ghost use Rattle.pad_write.specs.Steps.{check-text, Soundable, Documents-given, Segment-room, Segment-stored};
+ghost use Rattle.pad_write.specs.Steps.{check-text, Pad-and-names, Documents-given, Segment-room, Segment-stored};
 ghost use Rattle.pad_write.specs.Promise.{Pad-written};
 
 // Kinds 12 and 11: the text's length, and a name for each sound.
@@ -41,7 +42,7 @@ fn check_text(text: &[u8], ends: &[u32]) -> Checked
     if LIMIT < ends.len() {
         return Checked::Refused(too_large());
     }
-    if ends.len() != 128 {
+    if ends.len() != SOUNDS {
         return Checked::Refused(list_shape());
     }
     if !ends_fit(ends, text.len()) {
@@ -64,7 +65,7 @@ fn put_segment(
     terms: usize,
     at: Offsets,
 )
-    requires { ⌜ Soundable (now pad) (now text) (now ends) (now «posting_ids») (now counts) (now positions)
+    requires { ⌜ Pad-and-names (now pad) (now text) (now ends) (now «posting_ids») (now counts) (now positions)
         × Documents-given (now pad) (now ids) (now lengths)
         × Segment-room (given-of (names 0 (now ends) (now text)) (held (now pad))) (now out) terms at ⌝ }
     ensures { λ r. ⌜ Segment-stored (given-of (names 0 (was ends) (was text)) (held (was pad))) (was out) (left out) ⌝ }
@@ -96,7 +97,7 @@ fn write_sounds(
     positions: &mut [u32; 8192],
     out: &mut [u8],
 ) -> Written
-    requires { ⌜ Soundable (now pad) (now text) (now ends) (now «posting_ids») (now counts) (now positions)
+    requires { ⌜ Pad-and-names (now pad) (now text) (now ends) (now «posting_ids») (now counts) (now positions)
         × Documents-given (now pad) (now ids) (now lengths) ⌝ }
     ensures { λ r. ⌜ Wrote (laid-flat (given-of (names 0 (was ends) (was text)) (held (was pad)))) (was out) r (left out) ⌝ }
 {
