@@ -1,6 +1,6 @@
 -- By induction over the calls: while the words hold the map, each call's promise is the map's answer, and the words hold the next map.
 -- Assumes nothing.
-use mathlib.Core.Path.{_≡_, refl, ap, _∙_}
+use mathlib.Core.Path.{_≡_, refl, ap, _∙_, subst}
 use mathlib.Core.Bool.{true}
 use mathlib.Core.List.{List, [], _∷_}
 use Prim.Native.Nat.{ℕ}
@@ -18,7 +18,7 @@ use Rattle.pad_words.specs.Calls.{held-bars, pad-save, pad-erase, pad-read, pad
 use Rattle.pad_words.proofs.Exactly.{whole-exactly, zeros-empty}
 use Rattle.pad_record.specs.Promise.{save-answer, erase-answer, Bar-saved, Bar-erased}
 use Rattle.claim_pad.specs.Sequences.{Event, Saved, Erased, Read, Written-out, Promised, Run, saved-map, erased-map, map-next}
-use Rattle.claim_pad.specs.Sequences.{map-after, Map-answered, All-answered, Acts-as-map}
+use Rattle.claim_pad.specs.Sequences.{map-after, Map-answered, All-answered, As-the-map, Acts-as-map, From-empty}
 
 -- ---- words that hold a map: the calls are the map's
 
@@ -89,9 +89,12 @@ unfolding held-bars
 holds-own pad w = rw w
 
 pub acts-as-map : Acts-as-map
-acts-as-map es pad pad′ empty run =
-    let (w, none) = zeros-empty pad empty in
-    let h = holds-own pad (whole-exactly pad .1 w) ∙ ap ok none in
-    let (answers, after) = run-answers es pad [] pad′ h run in
-    let (w′, holds) = holds-these pad′ (map-after es []) after in
+acts-as-map es pad pad′ w run =
+    let (answers, after) = run-answers es pad (held pad) pad′ (holds-own pad (whole-exactly pad .1 w)) run in
+    let (w′, holds) = holds-these pad′ (map-after es (held pad)) after in
     record { answers = answers; whole = whole-exactly pad′ .0 w′; holds = holds }
+
+pub from-empty : From-empty
+from-empty es pad pad′ empty run =
+    let (w, none) = zeros-empty pad empty in
+    subst (λ bars. As-the-map es bars pad′) none (acts-as-map es pad pad′ w run)

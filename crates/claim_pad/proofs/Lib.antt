@@ -6,6 +6,8 @@ pub mod Fine
 pub mod Named
 pub mod Hits
 pub mod Writable
+pub mod Sized
+pub mod Refused
 pub mod Typed
 pub mod Searched
 pub mod Told

@@ -25,7 +25,8 @@ use Rattle.calls.proofs.Accepted.{postings-from, terms-from}
 use Rattle.claim_joint.proofs.Once.{names-above, names-tail}
 use Rattle.pad_map.specs.Bars.{Bar}
 use Rattle.pad_map.specs.Acts.{steps-of, postings-of, terms-of}
-use Rattle.claim_pad.specs.Written.{Used, check-names}
+use Rattle.claim_pad.specs.Written.{Used}
+use Rattle.claim_pad.specs.Claims.{check-used}
 use Rattle.claim_pad.proofs.Listed as listed
 use Rattle.claim_pad.proofs.Listed.{steps-gives, steps-from, postings-gives}
 
@@ -123,8 +124,8 @@ bind-same (refuse x) f g e = refl
 
 pub names-decide-terms : (documents : List Document) (previous : Option (List ℕ)) (ts : List Term)
     → ((t : Term) → t ∈ ts → (0 < length (t .postings)) × (check-postings documents none (t .postings) ≡ ok tt))
-    → check-terms documents previous ts ≡ check-names previous (map (λ t. t .name) ts)
-unfolding check-terms check-names
+    → check-terms documents previous ts ≡ check-used previous (map (λ t. t .name) ts)
+unfolding check-terms check-used
 names-decide-terms documents previous [] each = refl
 names-decide-terms documents previous (t ∷ ts) each =
     let (has, passes) = each t (inl refl) in

@@ -110,7 +110,7 @@ module _ (pad text ends out : List ℕ) {w : Written} {out′ : List ℕ} (wrote
             search-refuses = demand .search-refuses;
             gives-back = λ m d is.
                 let b = demand .gives-back m d is in
-                (b .back ∙ ap ok (given-back (given-of (names 0 ends text) (held pad))), b .rest);
+                (b .size, b .fits, b .back ∙ ap ok (given-back (given-of (names 0 ends text) (held pad))), b .rest);
             lists = λ m d is proper.
                 bars-listed pad text ends (length out) (wrote-so .bytes) so name name-ends proper found (demand .lists m d is proper);
           };

@@ -34,7 +34,8 @@ use Rattle.pad_words.specs.Whole.{Whole, whole}
 use Rattle.pad_words.specs.Calls.{held-bars, pad-write}
 use Rattle.pad_words.proofs.Exactly.{whole-exactly}
 use Rattle.pad_write.proofs.Bounds.{documents-of, ids-are, checks-are}
-use Rattle.claim_pad.specs.Written.{Used, Names-fine, Names-shaped, map-lists, Names-decide, Only-names, Written-exactly}
+use Rattle.claim_pad.specs.Written.{Used, Names-fine, Names-shaped, map-lists}
+use Rattle.claim_pad.specs.Claims.{As-the-writer, Names-decide, Only-names, Written-exactly}
 use Rattle.claim_pad.proofs.Acting.{holds-these, holds-own, write-by-map}
 use Rattle.claim_pad.proofs.Listed.{terms-gives}
 use Rattle.claim_pad.proofs.Listed as listed
@@ -77,6 +78,13 @@ write-is pad text ends room w n =
       le-leb (length ends) 16777216 (omega (arith, n .number)),
       eq-eqb (length ends) 128 (n .number),
       shape-is text ends .1 (n .shape),
+    )
+
+pub as-the-writer : As-the-writer
+as-the-writer pad text ends w n out r out′ =
+    let is = write-is pad text ends (length out) w n in (
+      λ p. record { reply = rw is at (p .reply); left = rw is at (p .left) },
+      λ p. record { reply = rw is (p .reply); left = rw is (p .left) },
     )
 
 -- ---- terms of fine bars

@@ -7,3 +7,4 @@ pub mod Written
 pub mod Promise
 -- What is claimed of the definitions:
 pub mod Claims
+pub mod Refusals

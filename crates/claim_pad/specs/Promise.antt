@@ -1,6 +1,6 @@
 -- What writing a pad out and then asking a phrase promises: the claim, and beside it the promises of the two calls, one after the other,
 -- for every outcome.
-use Prim.Native.Nat.{ℕ}
+use Prim.Native.Nat.{ℕ, _≤_}
 use mathlib.Core.Path.{_≡_}
 use mathlib.Core.List.{List}
 use mathlib.Core.Logic.{_↔_}
@@ -13,6 +13,7 @@ use Rattle.segment.specs.declared.replies.Counted.{Counted}
 use Rattle.segment.specs.declared.replies.Counted.the-variants as counted
 use Rattle.segment.specs.declared.replies.Written.the-variants as written
 use Rattle.rules.specs.declared.rule.Rule.the-variants.{Phrase}
+use Rattle.calls.specs.Sizes.{segment-size}
 use Rattle.ask_search.specs.Promise.{Text-answered}
 use Rattle.claim_joint.specs.declared.ask.Asked.{Asked}
 use Rattle.claim_joint.specs.declared.ask.Asked.the-variants as asked
@@ -21,7 +22,7 @@ use Rattle.pad_map.specs.Acts.{given-of}
 use Rattle.pad_words.specs.Words.{held}
 use Rattle.pad_write.specs.Promise.{Pad-written}
 use Rattle.claim_pad.specs.Phrases.{Bars-listed}
-use Rattle.claim_pad.specs.Written.{Pad-writable}
+use Rattle.claim_pad.specs.Written.{map-lists, Pad-writable}
 
 -- `text` and `ends` are the names of the 128 sounds, `name` and `name-ends` those of the phrase
 pub record Bars-found (pad text ends out name name-ends found : List ℕ) (r : Asked) (out′ found′ : List ℕ) : Type 0 where
@@ -30,9 +31,10 @@ pub record Bars-found (pad text ends out name name-ends found : List ℕ) (r : A
   pub refuses : (x : Refusal) → r ≡ asked.NotWritten x → (out′ ≡ out) × (found′ ≡ found)
   -- a search that refuses leaves its buffer
   pub search-refuses : (n : ℕ) (x : Refusal) → r ≡ asked.Answer n (counted.Refused x) → found′ ≡ found
-  -- the bytes give back the bars held, and the slice's other places are as they were
+  -- as many bytes as document 01's format takes for the bars held; they give these back, and the slice's other places are as they were
   pub gives-back : (n : ℕ) (c : Counted) → r ≡ asked.Answer n c
-      → (decode-segment (take n out′) ≡ ok (given-of (names 0 ends text) (held pad))) × (drop n out′ ≡ drop n out)
+      → (n ≡ segment-size (map-lists pad text ends)) × (n ≤ length out)
+      × (decode-segment (take n out′) ≡ ok (given-of (names 0 ends text) (held pad))) × (drop n out′ ≡ drop n out)
   -- the search does not refuse a proper phrase, and lists exactly the bars held whose own hits meet it
   pub lists : (n : ℕ) (c : Counted) → r ≡ asked.Answer n c → Proper-text Phrase name name-ends
       → Bars-listed (held pad) (names 0 ends text) (names 0 name-ends name) found c found′

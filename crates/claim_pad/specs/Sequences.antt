@@ -1,5 +1,6 @@
--- Document 02, wish 6: a pad acts as a plain map. After any calls, of any number, refused ones among them, every answer was the map's, and
--- the words are a pad again, which holds the map after the same calls.
+-- Document 02, wish 6: a pad acts as a plain map, the one that it holds. From any pad, be it all zeros, read from where it was stored, or
+-- one from which all was erased, after any calls, of any number, refused ones among them, every answer was the map's, and the words are a
+-- pad again, which holds the map after the same calls.
 use Prim.Native.Nat.{ℕ}
 use mathlib.Core.Path.{_≡_}
 use mathlib.Core.List.{List, [], _∷_}
@@ -26,7 +27,8 @@ pub data Event : Type 0 where
   Read : (id : ℕ) (sounds steps : List ℕ) → BarRead → (sounds′ steps′ : List ℕ) → Event
   Written-out : (text ends out : List ℕ) → Written → (out′ : List ℕ) → Event
 
--- each call keeps its promise on the words that the one before left; reading and writing out are lent none of them to change
+-- each call keeps its promise on the words that the one before left; reading and writing out take the pad as a shared slice (`&[u32]`),
+-- through which nothing can be changed, so that their promises need not say that the words stay: here it is said
 abbrev pub Promised : Event → (pad pad′ : List ℕ) → Type 0
 Promised (Saved id len ss ts r) pad pad′ = Bar-saved pad id len ss ts r pad′
 Promised (Erased id r) pad pad′ = Bar-erased pad id r pad′
@@ -73,12 +75,17 @@ abbrev pub All-answered : List Event → List Bar → Type 0
 All-answered [] bars = Unit {0}
 All-answered (e ∷ es) bars = Map-answered e bars × All-answered es (map-next e bars)
 
--- ---- the claim
+-- ---- the claims; proved in proofs/Acting.antt
 
-pub record As-the-map (events : List Event) (pad′ : List ℕ) : Type 0 where
-  pub answers : All-answered events []
+pub record As-the-map (events : List Event) (bars : List Bar) (pad′ : List ℕ) : Type 0 where
+  pub answers : All-answered events bars
   pub whole : Whole pad′
-  pub holds : held pad′ ≡ map-after events []
+  pub holds : held pad′ ≡ map-after events bars
 
+-- from any pad, as the map that it holds
 abbrev pub Acts-as-map : Type 0
-Acts-as-map = (events : List Event) (pad pad′ : List ℕ) → Empty pad → Run events pad pad′ → As-the-map events pad′
+Acts-as-map = (events : List Event) (pad pad′ : List ℕ) → Whole pad → Run events pad pad′ → As-the-map events (held pad) pad′
+
+-- from all zeros, as the empty map
+abbrev pub From-empty : Type 0
+From-empty = (events : List Event) (pad pad′ : List ℕ) → Empty pad → Run events pad pad′ → As-the-map events [] pad′
