@@ -12,9 +12,8 @@ use borrow.Author.Tests.{leb-true, le-leb, eqb-true}
 use Rattle.common.proofs.Loops.{true-false, and-left, and-right}
 use Rattle.utf8.specs.Utf8.{utf8}
 use Rattle.segment.specs.Directory.{follows}
-use Rattle.segment.specs.Refusals.{invalid-layout, invalid-utf8, list-shape, too-large, no-room, unknown-bar, already-held}
-use Rattle.segment.specs.Refusals.{pad-full, broken-pad}
-use Rattle.segment.specs.Refusals.{empty-term, terms-not-increasing, positions-not-increasing, written-position-exceeds-length}
+use Rattle.segment.specs.Refusals.{invalid-layout, invalid-utf8, list-shape, too-large, no-room, unknown-bar, already-held, pad-full}
+use Rattle.segment.specs.Refusals.{broken-pad, empty-term, terms-not-increasing, positions-not-increasing, written-position-exceeds-length}
 use Rattle.segment.specs.Results.{Result, ok, refuse, _>>=_, check}
 use Rattle.segment.specs.Texts.{ends-fit, names}
 use Rattle.segment.specs.Written.{segment-bytes}
@@ -197,11 +196,9 @@ pub held-exactly : Held-exactly
 unfolding pad-save
 held-exactly pad id len ss ts = (
   λ e.
-      let w = other-whole pad _ (λ k. omega arith) e in (
-        w,
-        λ free.
-            free-never (held pad) id len ss ts free .other already-held (sym (save-by-map pad (held pad) (own pad w) id len ss ts) ∙ e) refl,
-      ),
+      let w = other-whole pad _ (λ k. omega arith) e in
+      let is = save-by-map pad (held pad) (own pad w) id len ss ts in
+      (w, λ free. free-never (held pad) id len ss ts free .other already-held (sym is ∙ e) refl),
   λ (w, h). save-by-map pad (held pad) (own pad w) id len ss ts ∙ taken (held pad) id len ss ts (lookup (held pad) id) refl h,
 )
 

@@ -32,4 +32,5 @@ Held-exactly =
 -- a slice of so many places is never too short, whatever the pad and the names
 abbrev pub Never-short : Type 0
 Never-short =
-    (pad text ends : List ℕ) (room : ℕ) → most-bytes text ≤ room → (needed : ℕ) → pad-write pad text ends room ≡ refuse (no-room 1 needed) → ⊥
+    (pad text ends : List ℕ) (room : ℕ) → most-bytes text ≤ room → (needed : ℕ)
+    → pad-write pad text ends room ≡ refuse (no-room 1 needed) → ⊥
