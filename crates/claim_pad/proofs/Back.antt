@@ -18,7 +18,7 @@ use Rattle.pad_map.proofs.Mapped.{added, taken-out}
 use Rattle.pad_map.proofs.Saved.{save-gives}
 use Rattle.pad_words.specs.Words.{held}
 use Rattle.pad_words.specs.Calls.{held-bars, pad-save, pad-erase, pad-read}
-use Rattle.pad_read.specs.Promise.{sounds-of, steps-of}
+use Rattle.pad_read.specs.Promise.{bar-sounds, bar-steps}
 use Rattle.pad_record.specs.Promise.{save-answer, erase-answer}
 use Rattle.claim_pad.specs.Back.{Others-as-before, Saved-reads-back, Erased-is-gone}
 use Rattle.claim_pad.proofs.Acting.{holds-these, read-by-map, holds-own}
@@ -83,8 +83,8 @@ saved-reads-back pad id len ss ts n pad′ p =
           let told : pad-read pad′ id (length is′) (length it) ≡ ok b =
           read-by-map pad′ after h′ id (length is′) (length it)
           ∙ read-found after id (length is′) (length it) b there (omega arith) (omega arith) in
-          let sounds : sounds-of b ≡ ss = lefts hit (λ h. h .sound) (λ x y. refl) ss ts side in
-          let steps : steps-of b ≡ ts = rights hit (λ h. h .step) (λ x y. refl) ss ts side in (
+          let sounds : bar-sounds b ≡ ss = lefts hit (λ h. h .sound) (λ x y. refl) ss ts side in
+          let steps : bar-steps b ≡ ts = rights hit (λ h. h .step) (λ x y. refl) ss ts side in (
             rw (told, many) at (q .reply),
             rw (told, sounds) at (q .sounds-left),
             rw (told, steps) at (q .steps-left),

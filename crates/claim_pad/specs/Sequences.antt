@@ -15,7 +15,7 @@ use Rattle.pad_map.specs.Acts.{save, erase, read, write-out}
 use Rattle.pad_words.specs.Words.{held}
 use Rattle.pad_words.specs.Whole.{Whole}
 use Rattle.pad_words.specs.Claims.{Empty}
-use Rattle.pad_read.specs.Promise.{read-answer, sounds-of, steps-of, Bar-read-back}
+use Rattle.pad_read.specs.Promise.{read-answer, bar-sounds, bar-steps, Bar-read-back}
 use Rattle.pad_record.specs.Promise.{save-answer, erase-answer, Bar-saved, Bar-erased}
 use Rattle.pad_write.specs.Promise.{Pad-written}
 
@@ -66,7 +66,7 @@ Map-answered (Saved id len ss ts r) bars = r ≡ save-answer (length ss) (save b
 Map-answered (Erased id r) bars = r ≡ erase-answer (erase bars id)
 Map-answered (Read id ss ts r ss′ ts′) bars =
     let told = read bars id (length ss) (length ts) in
-    (r ≡ read-answer told) × (ss′ ≡ filled sounds-of told ss) × (ts′ ≡ filled steps-of told ts)
+    (r ≡ read-answer told) × (ss′ ≡ filled bar-sounds told ss) × (ts′ ≡ filled bar-steps told ts)
 Map-answered (Written-out text ends out r out′) bars =
     let told = write-out bars text ends (length out) in
     (r ≡ length-of-written told) × (out′ ≡ filled (λ xs. xs) told out)

@@ -16,13 +16,13 @@ read-answer (ok b) = back.Bar (length (b .hits)) (b .len)
 read-answer (refuse x) = back.Refused x
 
 -- what goes into the lists
-abbrev pub sounds-of : Bar → List ℕ
-sounds-of b = map (λ h. h .sound) (b .hits)
+abbrev pub bar-sounds : Bar → List ℕ
+bar-sounds b = map (λ h. h .sound) (b .hits)
 
-abbrev pub steps-of : Bar → List ℕ
-steps-of b = map (λ h. h .step) (b .hits)
+abbrev pub bar-steps : Bar → List ℕ
+bar-steps b = map (λ h. h .step) (b .hits)
 
 pub record Bar-read-back (pad : List ℕ) (id : ℕ) (sounds steps : List ℕ) (r : BarRead) (sounds′ steps′ : List ℕ) : Type 0 where
   pub reply : r ≡ read-answer (pad-read pad id (length sounds) (length steps))
-  pub sounds-left : sounds′ ≡ filled sounds-of (pad-read pad id (length sounds) (length steps)) sounds
-  pub steps-left : steps′ ≡ filled steps-of (pad-read pad id (length sounds) (length steps)) steps
+  pub sounds-left : sounds′ ≡ filled bar-sounds (pad-read pad id (length sounds) (length steps)) sounds
+  pub steps-left : steps′ ≡ filled bar-steps (pad-read pad id (length sounds) (length steps)) steps
