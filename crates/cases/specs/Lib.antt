@@ -27,6 +27,7 @@ pub mod Near-misses
 pub mod Not-written
 pub mod Numbers
 pub mod Pad-broken
+pub mod Pad-counter
 pub mod Pad-full
 pub mod Pad-recorded
 pub mod Pad-refusals

@@ -10,9 +10,9 @@ use Rattle.segment.specs.declared.replies.TermTotals.the-variants as listed
 use Rattle.segment.specs.declared.replies.Written.the-variants as written
 use Rattle.segment.specs.declared.replies.Imported.the-variants as imported
 use Rattle.segment.specs.declared.replies.BarRead.the-variants as back
-use Rattle.pstp.specs.declared.reply.Reply.{Reply}
-use Rattle.pstp.specs.Promise.{opened-reply, length-reply, frequency-reply, counted-reply, listed-reply, written-reply, imported-reply}
-use Rattle.pstp.specs.Promise.{bar-read-reply}
+use Rattle.c_reply.specs.declared.reply.Reply.{Reply}
+use Rattle.c_reply.specs.Replies.{opened-reply, length-reply, frequency-reply, counted-reply, listed-reply, written-reply, imported-reply}
+use Rattle.c_reply.specs.Replies.{bar-read-reply, hits-reply}
 
 abbrev reply : (kind which index first second third fourth : ℕ) → Reply
 reply k w i a b c d = record { kind = k; which = w; index = i; first = a; second = b; third = c; fourth = d }
@@ -56,6 +56,10 @@ of-imported = refl
 -- hits first, the length second. Fails: the two exchanged
 of-bar-read : bar-read-reply (back.Bar 5 16) ≡ reply 0 0 0 5 16 0 0
 of-bar-read = refl
+
+-- Fails: the stored number taken for a refusal's
+of-hits : hits-reply 4294967295 ≡ reply 0 0 0 4294967295 0 0 0
+of-hits = refl
 
 -- a refusal has its three numbers, and zeros. Fails: which and index exchanged, kind 0 for a refusal
 opened-refused : opened-reply (opened.Refused some-refusal) ≡ reply 13 2 5 0 0 0 0

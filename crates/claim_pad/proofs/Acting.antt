@@ -1,6 +1,6 @@
 -- By induction over the calls: while the words hold the map, each call's promise is the map's answer, and the words hold the next map.
 -- Assumes nothing.
-use mathlib.Core.Path.{_≡_, refl, ap, _∙_, subst}
+use mathlib.Core.Path.{_≡_, refl, sym, ap, _∙_, subst}
 use mathlib.Core.Bool.{true}
 use mathlib.Core.List.{List, [], _∷_}
 use Prim.Native.Nat.{ℕ}
@@ -10,15 +10,17 @@ use Rattle.segment.specs.Results.{Result, ok, refuse}
 use Rattle.segment.specs.declared.replies.Counted.{Counted}
 use Rattle.segment.proofs.Binds.{ok-same}
 use Rattle.segment.proofs.Accepted.{check-gives}
-use Rattle.pad_map.specs.Bars.{Bar, without}
+use Rattle.pad_map.specs.Bars.{Bar, without, hits-in-all}
 use Rattle.pad_map.specs.Acts.{save, erase, read, write-out}
 use Rattle.pad_words.specs.Words.{held}
 use Rattle.pad_words.specs.Whole.{whole}
 use Rattle.pad_words.specs.Calls.{held-bars, pad-save, pad-erase, pad-read, pad-write, saved-words, erased-words}
+use Rattle.pad_words.proofs.Wholes.{total-is}
 use Rattle.pad_words.proofs.Exactly.{whole-exactly, zeros-empty}
+use Rattle.pad_read.specs.Counter.{pad-hits}
 use Rattle.pad_record.specs.Promise.{save-answer, erase-answer, Bar-saved, Bar-erased}
-use Rattle.claim_pad.specs.Sequences.{Event, Saved, Erased, Read, Written-out, Promised, Run, saved-map, erased-map, map-next}
-use Rattle.claim_pad.specs.Sequences.{map-after, Map-answered, All-answered, As-the-map, Acts-as-map, From-empty}
+use Rattle.claim_pad.specs.Sequences.{Event, Saved, Erased, Read, Written-out, Shown, Promised, Run, saved-map, erased-map}
+use Rattle.claim_pad.specs.Sequences.{map-next, map-after, Map-answered, All-answered, As-the-map, Acts-as-map, From-empty}
 
 -- ---- words that hold a map: the calls are the map's
 
@@ -43,6 +45,10 @@ module _ (pad : List ℕ) (bars : List Bar) (h : held-bars pad ≡ ok bars) wher
   unfolding pad-write
   write-by-map text ends room = rw h
 
+  -- the number that they store
+  pub shown : pad-hits pad ≡ hits-in-all bars
+  shown = let (w, is) = holds-these in sym (total-is pad w) ∙ ap hits-in-all is
+
   -- ---- the map afterwards
 
   saved-holds : (id len : ℕ) (ss ts : List ℕ) {r : Counted} {pad′ : List ℕ} → Bar-saved pad id len ss ts r pad′ → (told : Result (List Bar))
@@ -63,6 +69,7 @@ module _ (pad : List ℕ) (bars : List Bar) (h : held-bars pad ≡ ok bars) wher
   next-holds (Erased id r) pad′ p = erased-holds id p (erase bars id) refl
   next-holds (Read id ss ts r ss′ ts′) pad′ (p, same) = ap held-bars same ∙ h
   next-holds (Written-out text ends out r out′) pad′ (p, same) = ap held-bars same ∙ h
+  next-holds (Shown n) pad′ (p, same) = ap held-bars same ∙ h
 
   pub answered : (e : Event) (pad′ : List ℕ) → Promised e pad pad′ → Map-answered e bars
   answered (Saved id len ss ts r) pad′ p = p .reply ∙ ap (save-answer (length ss)) (save-by-map id len ss ts)
@@ -73,6 +80,7 @@ module _ (pad : List ℕ) (bars : List Bar) (h : held-bars pad ≡ ok bars) wher
   answered (Written-out text ends out r out′) pad′ (p, same) =
       let is = write-by-map text ends (length out) in
       (rw is at (p .reply), rw is at (p .left))
+  answered (Shown n) pad′ (p, same) = p ∙ shown
 
 -- ---- any number of calls
 

@@ -50,20 +50,20 @@ others-same id pad pad′ bars after h h′ same other apart ss ts r ss′ ts′
 -- ---- saved
 
 -- what an answered save says
-save-accepted : (n : ℕ) (r : Result (List Bar)) {m : ℕ} → counted.Count m ≡ save-answer n r → (after : List Bar) × (r ≡ ok after)
+pub save-accepted : (n : ℕ) (r : Result (List Bar)) {m : ℕ} → counted.Count m ≡ save-answer n r → (after : List Bar) × (r ≡ ok after)
 save-accepted n (ok after) e = (after, refl)
 save-accepted n (refuse x) e = let z : _≡_ {A = ℕ} 0 1 = cc in absurd (omega arith)
 
-erase-accepted : (r : Result Bar) {m : ℕ} → counted.Count m ≡ erase-answer r → (b : Bar) × (r ≡ ok b)
+pub erase-accepted : (r : Result Bar) {m : ℕ} → counted.Count m ≡ erase-answer r → (b : Bar) × (r ≡ ok b)
 erase-accepted (ok b) e = (b, refl)
 erase-accepted (refuse x) e = let z : _≡_ {A = ℕ} 0 1 = cc in absurd (omega arith)
 
-pad-save-gives : (pad : List ℕ) (id len : ℕ) (ss ts : List ℕ) (after : List Bar) → pad-save pad id len ss ts ≡ ok after
+pub pad-save-gives : (pad : List ℕ) (id len : ℕ) (ss ts : List ℕ) (after : List Bar) → pad-save pad id len ss ts ≡ ok after
     → (bars : List Bar) × (held-bars pad ≡ ok bars) × (save bars id len ss ts ≡ ok after)
 unfolding pad-save
 pad-save-gives pad id len ss ts after e = bind-gives (held-bars pad) _ e
 
-pad-erase-gives : (pad : List ℕ) (id : ℕ) (b : Bar) → pad-erase pad id ≡ ok b → (bars : List Bar) × (held-bars pad ≡ ok bars)
+pub pad-erase-gives : (pad : List ℕ) (id : ℕ) (b : Bar) → pad-erase pad id ≡ ok b → (bars : List Bar) × (held-bars pad ≡ ok bars)
 unfolding pad-erase
 pad-erase-gives pad id b e = let (bars, h, k) = bind-gives (held-bars pad) _ e in (bars, h)
 

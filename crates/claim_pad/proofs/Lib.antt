@@ -8,6 +8,7 @@ pub mod Hits
 pub mod Writable
 pub mod Sized
 pub mod Refused
+pub mod Counter
 pub mod Typed
 pub mod Searched
 pub mod Told

@@ -1,6 +1,7 @@
 -- What a reader must believe, in the order to read it:
 pub mod Sequences
 pub mod Back
+pub mod Counter
 pub mod Phrases
 pub mod Written
 -- What the call promises:

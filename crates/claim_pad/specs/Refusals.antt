@@ -13,7 +13,7 @@ use Rattle.pad_words.specs.Whole.{Whole}
 use Rattle.pad_words.specs.Calls.{pad-save, pad-erase, pad-read, pad-write}
 use Rattle.claim_pad.specs.Claims.{most-bytes}
 
--- whatever else is handed in, each of the four calls answers 20 exactly where the words are no pad: the map's own refusals are others
+-- whatever else is handed in, each call but the counter answers 20 exactly where the words are no pad: the map's own refusals are others
 pub record Tells-broken (pad : List ℕ) : Type 0 where
   pub save : (id len : ℕ) (sounds steps : List ℕ) → (pad-save pad id len sounds steps ≡ refuse broken-pad) ↔ (Whole pad → ⊥)
   pub erase : (id : ℕ) → (pad-erase pad id ≡ refuse broken-pad) ↔ (Whole pad → ⊥)

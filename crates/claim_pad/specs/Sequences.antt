@@ -1,6 +1,6 @@
--- Document 02, wish 6: a pad acts as a plain map, the one that it holds. From any pad, be it all zeros, read from where it was stored, or
--- one from which all was erased, after any calls, of any number, refused ones among them, every answer was the map's, and the words are a
--- pad again, which holds the map after the same calls.
+-- Document 02, wishes 6 and 7: a pad acts as a plain map, the one that it holds. From any pad, be it all zeros, read from where it was
+-- stored, or one from which all was erased, after any calls, of any number, refused ones among them, every answer was the map's, and the
+-- words are a pad again, which holds the map after the same calls.
 use Prim.Native.Nat.{ℕ}
 use mathlib.Core.Path.{_≡_}
 use mathlib.Core.List.{List, [], _∷_}
@@ -10,11 +10,12 @@ use Rattle.segment.specs.declared.replies.Counted.{Counted}
 use Rattle.segment.specs.declared.replies.BarRead.{BarRead}
 use Rattle.segment.specs.declared.replies.Written.{Written}
 use Rattle.calls.specs.Replies.{length-of-written, filled}
-use Rattle.pad_map.specs.Bars.{Bar, without}
+use Rattle.pad_map.specs.Bars.{Bar, without, hits-in-all}
 use Rattle.pad_map.specs.Acts.{save, erase, read, write-out}
 use Rattle.pad_words.specs.Words.{held}
 use Rattle.pad_words.specs.Whole.{Whole}
 use Rattle.pad_words.specs.Claims.{Empty}
+use Rattle.pad_read.specs.Counter.{pad-hits}
 use Rattle.pad_read.specs.Promise.{read-answer, bar-sounds, bar-steps, Bar-read-back}
 use Rattle.pad_record.specs.Promise.{save-answer, erase-answer, Bar-saved, Bar-erased}
 use Rattle.pad_write.specs.Promise.{Pad-written}
@@ -26,14 +27,16 @@ pub data Event : Type 0 where
   Erased : (id : ℕ) → Counted → Event
   Read : (id : ℕ) (sounds steps : List ℕ) → BarRead → (sounds′ steps′ : List ℕ) → Event
   Written-out : (text ends out : List ℕ) → Written → (out′ : List ℕ) → Event
+  Shown : (hits : ℕ) → Event
 
--- each call keeps its promise on the words that the one before left; reading and writing out take the pad as a shared slice (`&[u32]`),
--- through which nothing can be changed, so that their promises need not say that the words stay: here it is said
+-- each call keeps its promise on the words that the one before left; reading, writing out and the counter take the pad as a shared slice
+-- (`&[u32]`), through which nothing can be changed, so that their promises need not say that the words stay: here it is said
 abbrev pub Promised : Event → (pad pad′ : List ℕ) → Type 0
 Promised (Saved id len ss ts r) pad pad′ = Bar-saved pad id len ss ts r pad′
 Promised (Erased id r) pad pad′ = Bar-erased pad id r pad′
 Promised (Read id ss ts r ss′ ts′) pad pad′ = Bar-read-back pad id ss ts r ss′ ts′ × (pad′ ≡ pad)
 Promised (Written-out text ends out r out′) pad pad′ = Pad-written pad text ends out r out′ × (pad′ ≡ pad)
+Promised (Shown n) pad pad′ = (n ≡ pad-hits pad) × (pad′ ≡ pad)
 
 abbrev pub Run : List Event → (pad pad′ : List ℕ) → Type 0
 Run [] pad pad′ = pad′ ≡ pad
@@ -41,7 +44,7 @@ Run (e ∷ es) pad pad′ = (next : List ℕ) × Promised e pad next × Run es n
 
 -- ---- the same calls on the map alone
 
--- the map afterwards; a refusal leaves it, and so do reading and writing out
+-- the map afterwards; a refusal leaves it, and so do reading, writing out and the counter
 abbrev pub saved-map : Result (List Bar) → List Bar → List Bar
 saved-map (ok after) bars = after
 saved-map (refuse x) bars = bars
@@ -55,6 +58,7 @@ map-next (Saved id len ss ts r) bars = saved-map (save bars id len ss ts) bars
 map-next (Erased id r) bars = erased-map id (erase bars id) bars
 map-next (Read id ss ts r ss′ ts′) bars = bars
 map-next (Written-out text ends out r out′) bars = bars
+map-next (Shown n) bars = bars
 
 abbrev pub map-after : List Event → List Bar → List Bar
 map-after [] bars = bars
@@ -70,6 +74,7 @@ Map-answered (Read id ss ts r ss′ ts′) bars =
 Map-answered (Written-out text ends out r out′) bars =
     let told = write-out bars text ends (length out) in
     (r ≡ length-of-written told) × (out′ ≡ filled (λ xs. xs) told out)
+Map-answered (Shown n) bars = n ≡ hits-in-all bars
 
 abbrev pub All-answered : List Event → List Bar → Type 0
 All-answered [] bars = Unit {0}

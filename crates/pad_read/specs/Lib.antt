@@ -1,4 +1,5 @@
--- What the call promises:
+-- What the calls promise:
 pub mod Promise
+pub mod Counter
 -- What only proofs need:
 pub mod Steps

@@ -1,4 +1,4 @@
--- The calls on a pad: 20 before all else, then what the map answers.
+-- The calls on a pad that test it: 20 before all else, then what the map answers.
 use Prim.Native.Nat.{ℕ}
 use mathlib.Core.List.{List}
 use Rattle.segment.specs.Refusals.{broken-pad}

@@ -1,17 +1,17 @@
 // The searches. Each answers first: how many documents meet the question, and their ids in a buffer, rising or the best first; or a
 // refusal.
-use crate::reply::Reply;
-use crate::reply::of_counted;
 use ask_ranked::questions::phrase_match_ranked;
 use ask_search::questions::near_match;
 use ask_search::questions::near_match_terms_strs;
 use ask_search::questions::phrase_match_strs;
+use c_reply::reply::Reply;
+use c_reply::reply::of_counted;
 use rules::rule::Rule;
 ghost use Rattle.common.specs.Slices.{was, left};
 ghost use Rattle.rules.specs.Kinds.{near-rule};
 ghost use Rattle.ask_ranked.specs.Promise.{Ranked-answered};
 ghost use Rattle.ask_search.specs.Promise.{Text-answered, Two-answered};
-ghost use Rattle.pstp.specs.Promise.{Replied, counted-reply};
+ghost use Rattle.c_reply.specs.Replies.{Replied, counted-reply};
 
 // first: the number of documents in which the names have consecutive positions; their ids, rising.
 #[no_mangle]

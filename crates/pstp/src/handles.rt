@@ -1,12 +1,12 @@
 // Segments checked once, and the calls with a handle: each beside the call of its name that opens the segment itself.
-use crate::reply::Reply;
-use crate::reply::of_counted;
-use crate::reply::of_doc_freq;
-use crate::reply::of_length;
-use crate::reply::of_listed;
 use ask_checked::questions::near_match_checked;
 use ask_checked::questions::near_match_terms_strs_checked;
 use ask_checked::questions::phrase_match_strs_checked;
+use c_reply::reply::Reply;
+use c_reply::reply::of_counted;
+use c_reply::reply::of_doc_freq;
+use c_reply::reply::of_length;
+use c_reply::reply::of_listed;
 use handle::checking::check;
 use handle::checking::open_once;
 use handle::handle::Handle;
@@ -23,7 +23,7 @@ ghost use Rattle.rules.specs.Kinds.{near-rule};
 ghost use Rattle.handle.specs.Handles.{opened-once, checked-once};
 ghost use Rattle.read_checked.specs.Promise.{Length-checked, Df-checked, Docs-checked, Postings-checked, Positions-checked};
 ghost use Rattle.ask_checked.specs.Promise.{Text-checked, Two-checked};
-ghost use Rattle.pstp.specs.Promise.{Replied, length-reply, frequency-reply, counted-reply, listed-reply};
+ghost use Rattle.c_reply.specs.Replies.{Replied, length-reply, frequency-reply, counted-reply, listed-reply};
 
 // The handle of a segment that opens, at level 1; or the refusal.
 #[no_mangle]

@@ -1,11 +1,11 @@
 // Bars from MIDI files.
-use crate::reply::Reply;
-use crate::reply::of_imported;
+use c_reply::reply::Reply;
+use c_reply::reply::of_imported;
 use midi_import::import::midi_bars;
 ghost use Rattle.common.specs.Slices.{was};
 ghost use Rattle.calls.specs.Given.{given-lists, left-lists};
 ghost use Rattle.midi_import.specs.Promise.{Bars-imported};
-ghost use Rattle.pstp.specs.Promise.{Replied, imported-reply};
+ghost use Rattle.c_reply.specs.Replies.{Replied, imported-reply};
 
 // first: documents (bars); second: terms (sounds); third: postings; fourth: positions; the eight lists that the writer takes, at the fronts
 // of the buffers.

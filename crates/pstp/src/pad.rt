@@ -1,17 +1,22 @@
-// A pad to record on: bars saved, erased, read back and written out. Each call answers 20 for words that are no pad, before all else.
-use crate::reply::Reply;
-use crate::reply::of_bar_read;
-use crate::reply::of_counted;
-use crate::reply::of_written;
+// A pad to record on: bars saved, erased, read back and written out, and the number of hits on the display, which is answered as stored.
+// Each call but that one answers 20 for words that are no pad, before all else.
+use c_reply::reply::Reply;
+use c_reply::reply::of_bar_read;
+use c_reply::reply::of_counted;
+use c_reply::reply::of_hits;
+use c_reply::reply::of_written;
+use pad_read::hits::pad_hits;
 use pad_read::read::pad_read;
 use pad_record::erase::pad_erase;
 use pad_record::save::pad_save;
 use pad_write::write::pad_write;
+ghost use mathlib.Core.Path.{_≡_};
 ghost use Rattle.common.specs.Slices.{was, left};
+ghost use Rattle.pad_read.specs.Counter.{pad-hits};
 ghost use Rattle.pad_read.specs.Promise.{Bar-read-back};
 ghost use Rattle.pad_record.specs.Promise.{Bar-saved, Bar-erased};
 ghost use Rattle.pad_write.specs.Promise.{Pad-written};
-ghost use Rattle.pstp.specs.Promise.{Replied, counted-reply, written-reply, bar-read-reply};
+ghost use Rattle.c_reply.specs.Replies.{Replied, counted-reply, written-reply, bar-read-reply, hits-reply};
 
 // first: how many hits the bar has; it is held under its id.
 #[no_mangle]
@@ -41,6 +46,14 @@ pub extern "C" fn pstp_pad_read(pad: &[u32], id: u32, sounds: &mut [u8], steps: 
     ensures { λ r. ⌜ Replied bar-read-reply (λ a. Bar-read-back (was pad) id (was sounds) (was steps) a (left sounds) (left steps)) r ⌝ }
 {
     of_bar_read(pad_read(pad, id, sounds, steps))
+}
+
+// first: how many hits the bars have together, as stored; never refused.
+#[no_mangle]
+pub extern "C" fn pstp_pad_hits(pad: &[u32]) -> Reply
+    ensures { λ r. ⌜ r ≡ hits-reply (pad-hits (was pad)) ⌝ }
+{
+    of_hits(pad_hits(pad))
 }
 
 // first: how many bytes were written: the bars as a segment, at the slice's front.

@@ -1,10 +1,10 @@
 // Open and the read calls.
-use crate::reply::Reply;
-use crate::reply::of_counted;
-use crate::reply::of_doc_freq;
-use crate::reply::of_length;
-use crate::reply::of_listed;
-use crate::reply::of_opened;
+use c_reply::reply::Reply;
+use c_reply::reply::of_counted;
+use c_reply::reply::of_doc_freq;
+use c_reply::reply::of_length;
+use c_reply::reply::of_listed;
+use c_reply::reply::of_opened;
 use read_documents::documents::document_len;
 use read_documents::documents::document_lengths;
 use read_open::open_segment::open;
@@ -21,7 +21,7 @@ ghost use Rattle.calls.specs.Reads.{document-len, df as df-of};
 ghost use Rattle.read_documents.specs.Promise.{Lengths-answered};
 ghost use Rattle.read_terms.specs.Promise.{Docs-answered};
 ghost use Rattle.read_positions.specs.Promise.{Postings-answered, Positions-answered};
-ghost use Rattle.pstp.specs.Promise.{Replied, opened-reply, length-reply, frequency-reply, counted-reply, listed-reply};
+ghost use Rattle.c_reply.specs.Replies.{Replied, opened-reply, length-reply, frequency-reply, counted-reply, listed-reply};
 
 // first: documents; second: terms.
 #[no_mangle]

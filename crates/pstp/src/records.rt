@@ -1,11 +1,11 @@
 // The writer over records, id and length. first: how many bytes were written.
-use crate::reply::Reply;
-use crate::reply::of_written;
+use c_reply::reply::Reply;
+use c_reply::reply::of_written;
 use write_records::exchange::DocumentLength;
 use write_records::write::write_positional_segment_records;
 ghost use Rattle.common.specs.Slices.{was, left};
 ghost use Rattle.write_records.specs.Promise.{taken-apart, Wrote-records};
-ghost use Rattle.pstp.specs.Promise.{Replied, written-reply};
+ghost use Rattle.c_reply.specs.Replies.{Replied, written-reply};
 
 // first: how many bytes were written. `ids` and `lengths` are lent for the time of the call, a place for each record; these and the
 // records are as before on every outcome.

@@ -1,11 +1,11 @@
 // A bar on paper.
-use crate::reply::Reply;
-use crate::reply::of_counted;
+use c_reply::reply::Reply;
+use c_reply::reply::of_counted;
 use segment::ids::DocId;
 use show_sheet::sheet::bar_sheet;
 ghost use Rattle.common.specs.Slices.{was, left};
 ghost use Rattle.show_sheet.specs.Promise.{Sheet-answered};
-ghost use Rattle.pstp.specs.Promise.{Replied, counted-reply};
+ghost use Rattle.c_reply.specs.Replies.{Replied, counted-reply};
 
 // first: how many bytes the sheet has; they are at the front of the buffer.
 #[no_mangle]

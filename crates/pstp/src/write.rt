@@ -1,11 +1,11 @@
 // The writer. first: how many bytes were written.
-use crate::reply::Reply;
-use crate::reply::of_written;
+use c_reply::reply::Reply;
+use c_reply::reply::of_written;
 use write_segment::write::write_positional_segment;
 ghost use Rattle.common.specs.Slices.{was, left};
 ghost use Rattle.calls.specs.Given.{given-lists};
 ghost use Rattle.write_segment.specs.Promise.{Wrote};
-ghost use Rattle.pstp.specs.Promise.{Replied, written-reply};
+ghost use Rattle.c_reply.specs.Replies.{Replied, written-reply};
 
 // first: how many bytes were written: documents and terms as a segment, at the slice's front.
 #[no_mangle]

@@ -1,7 +1,7 @@
 // The reply that a call must have.
 use crate::fields::long_number_at;
 use crate::fields::number_at;
-use pstp::reply::Reply;
+use c_reply::reply::Reply;
 ghost use Prim.Native.Nat.{_≤_};
 
 // The reply whose first five numbers stand at a place.

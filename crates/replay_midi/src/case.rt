@@ -1,5 +1,5 @@
 // A case of the list: its fields, and where the parts of its data lie.
-use pstp::reply::Reply;
+use c_reply::reply::Reply;
 use replay_list::fields::bytes_at;
 use replay_list::fields::long_number_at;
 use replay_list::fields::size_of;

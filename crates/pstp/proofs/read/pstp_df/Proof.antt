@@ -1,6 +1,6 @@
 use mathlib.Core.Path.{sym, _∙_, ap}
 use borrow.Author.Needs.{needs}
-use Rattle.pstp.specs.Promise.{frequency-reply}
+use Rattle.c_reply.specs.Replies.{frequency-reply}
 use Rattle.pstp.proofs.read.pstp_df.Statement.{statement}
 use Rattle.pstp.proofs.read.pstp_df.Tie as tie
 

@@ -1,6 +1,6 @@
 use mathlib.Core.Path.{sym, _∙_, ap}
 use borrow.Author.Needs.{needs}
-use Rattle.pstp.specs.Promise.{length-reply}
+use Rattle.c_reply.specs.Replies.{length-reply}
 use Rattle.pstp.proofs.read.pstp_document_len.Statement.{statement}
 use Rattle.pstp.proofs.read.pstp_document_len.Tie as tie
 

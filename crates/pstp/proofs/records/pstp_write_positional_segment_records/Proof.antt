@@ -50,14 +50,14 @@ use Rattle.write_records.proofs.write.write_positional_segment_records as inner
 use Rattle.write_records.proofs.write.write_positional_segment_records.Symbol as inner-def
 use Rattle.write_records.proofs.write.write_positional_segment_records.Symbol.{name as #inner}
 use Rattle.write_records.proofs.write.write_positional_segment_records.Met as inner-thm
-use Rattle.pstp.specs.declared.reply.Reply.{Reply}
-use Rattle.pstp.specs.Promise.{Replied, written-reply}
-use Rattle.pstp.proofs.reply.Reply as R
-use Rattle.pstp.proofs.reply.Reply.Laws as R′
-use Rattle.pstp.proofs.reply.of_written as reply
-use Rattle.pstp.proofs.reply.of_written.Symbol as reply-def
-use Rattle.pstp.proofs.reply.of_written.Symbol.{name as #reply}
-use Rattle.pstp.proofs.reply.of_written.Met as reply-thm
+use Rattle.c_reply.specs.declared.reply.Reply.{Reply}
+use Rattle.c_reply.specs.Replies.{Replied, written-reply}
+use Rattle.c_reply.proofs.reply.Reply as R
+use Rattle.c_reply.proofs.reply.Reply.Laws as R′
+use Rattle.c_reply.proofs.reply.of_written as reply
+use Rattle.c_reply.proofs.reply.of_written.Symbol as reply-def
+use Rattle.c_reply.proofs.reply.of_written.Symbol.{name as #reply}
+use Rattle.c_reply.proofs.reply.of_written.Met as reply-thm
 use Rattle.pstp.proofs.records.pstp_write_positional_segment_records.Key.{name as #entry}
 use Rattle.pstp.proofs.records.pstp_write_positional_segment_records as f
 use Rattle.pstp.proofs.records.pstp_write_positional_segment_records.Statement as stated
@@ -217,4 +217,4 @@ pstp-write-positional-segment-records-spec 𝓤 H 𝓜 𝓖 𝓡 =
     (tables 𝓤 H 𝓜 𝓡 code.env .C) (tables 𝓤 H 𝓜 𝓡 code.env .Λ) #entry code.function (code.unfolded 𝓤 H 𝓜 𝓡)
     (entry-meets 𝓤 H (𝓖 .A) (givenOf 𝓤 H 𝓜 𝓖) (𝓜 .mem) (𝓡 .run) (tablesOf 𝓤 H 𝓜 (tables 𝓤 H 𝓜 𝓡 code.env))
     (cited 𝓤 H (Inner 𝓤 H (𝓖 .A) (𝓜 .mem) (𝓡 .run)) 𝓜 𝓡 code.env #inner inner-def.routine code.calls-write-records·write·write-positional-segment-records (inner-thm.met 𝓤 H 𝓜 𝓖 𝓡))
-    (cited 𝓤 H (Replies 𝓤 H (𝓖 .A) (𝓜 .mem) (𝓡 .run)) 𝓜 𝓡 code.env #reply reply-def.routine code.calls-pstp·reply·of-written (reply-thm.met 𝓤 H 𝓜 𝓖 𝓡)))
+    (cited 𝓤 H (Replies 𝓤 H (𝓖 .A) (𝓜 .mem) (𝓡 .run)) 𝓜 𝓡 code.env #reply reply-def.routine code.calls-c-reply·reply·of-written (reply-thm.met 𝓤 H 𝓜 𝓖 𝓡)))

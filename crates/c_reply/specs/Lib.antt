@@ -1,0 +1,2 @@
+-- What a reply has of each answer:
+pub mod Replies

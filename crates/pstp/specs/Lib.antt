@@ -1,2 +1,0 @@
--- What the calls promise:
-pub mod Promise
