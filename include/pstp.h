@@ -417,19 +417,20 @@ pstp_reply pstp_bar_sheet(const uint8_t *segment, size_t segment_len, uint32_t i
  *
  *     uint32_t pad[PSTP_PAD_WORDS] = {0};
  *
- * Saving and erasing change the pad; reading back and writing out leave every word of it, as does a refusal. A bar fits whenever the
- * numbers of bars and hits allow it, whatever was saved and erased before.
+ * Saving and erasing change the pad; every other call leaves every word of it, as does a refusal. A bar fits whenever the numbers of bars
+ * and hits allow it, whatever was saved and erased before.
  *
  * Layout:
  *
  *  word 0           the number of bars, at most 256
- *  word 1           the number of their hits, at most 8,192
+ *  word 1           the number of their hits, at most 8,192: what pstp_pad_hits returns
  *  from word 2 on   the bars by strictly increasing id, one behind the other. A bar: its id, its length, the number of its hits, then the
  *                   hits by strictly increasing sound, then step. A hit: its sound, its step
  *  behind the last  free words. They may be anything and no call looks at them. Saving moves the bars of higher id up over them, erasing
  *                   moves these bars down again, and what then lies behind the last bar stays as it was
  *
- * Words laid out like this are a pad. All other words are refused by the four calls with 20, before all else, whatever else is wrong:
+ * Words laid out like this are a pad. All other words are refused with 20 by every call on a pad but pstp_pad_hits, before all else,
+ * whatever else is wrong:
  *
  *  - another number of words than PSTP_PAD_WORDS, or a word 0 above 256, or a word 1 above 8,192;
  *  - an id that is not above that of the bar before it, such as an id twice;
@@ -492,6 +493,13 @@ pstp_reply pstp_pad_read(const uint32_t *pad, size_t pad_len, uint32_t id, uint8
  * hits 10, 6/6, 6/16; 13/1 out. */
 pstp_reply pstp_pad_write(const uint32_t *pad, size_t pad_len, const uint8_t *text, size_t text_len, const uint32_t *ends,
                           size_t ends_len, uint8_t *out, size_t out_len);
+
+/* The number of hits that the pad holds, for a display: word 1 as it is stored. Nothing is counted and 20 is not tested for, so the call
+ * takes the same time whatever the pad holds.
+ * first: that number. On a pad, so after any saves, erasures and refused calls, it is the sum over the bars held. On words that are no pad
+ * it is whatever is in word 1, also where they are more or fewer than PSTP_PAD_WORDS; 0 where there is no word 1.
+ * Refusals: none. */
+pstp_reply pstp_pad_hits(const uint32_t *pad, size_t pad_len);
 
 #ifdef __cplusplus
 }

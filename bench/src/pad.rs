@@ -13,6 +13,7 @@ extern "C" {
     fn pstp_pad_erase(p: Lent, n: usize, id: u32) -> Reply;
     fn pstp_pad_read(p: Numbers, n: usize, id: u32, sounds: *mut u8, a: usize, steps: Lent, b: usize) -> Reply;
     fn pstp_pad_write(p: Numbers, n: usize, text: Bytes, a: usize, ends: Numbers, b: usize, out: *mut u8, l: usize) -> Reply;
+    fn pstp_pad_hits(p: Numbers, n: usize) -> Reply;
 }
 
 fn save(pad: &mut [u32], bar: &Given) -> Reply {
@@ -35,6 +36,10 @@ fn write(pad: &[u32], names: &Names, out: &mut [u8]) -> Reply {
     let (p, n, l) = (pad.as_ptr(), pad.len(), out.len());
     let (text, ends) = (&names.text, &names.ends);
     unsafe { pstp_pad_write(p, n, text.as_ptr(), text.len(), ends.as_ptr(), ends.len(), out.as_mut_ptr(), l) }
+}
+
+fn hits(pad: &[u32]) -> Reply {
+    unsafe { pstp_pad_hits(pad.as_ptr(), pad.len()) }
 }
 
 /// A bar as it is handed in.
@@ -108,11 +113,14 @@ fn compare_read(pad: &[u32], map: &Map, bar: &Given, lent: &mut (Vec<u8>, Vec<u3
 }
 
 /// Who runs: in calls the library, the map that is kept and the one that is read from the words; in writing out the library, and the
-/// Rust's writer from the map, with its own checksum and with a table.
+/// Rust's writer from the map, with its own checksum and with a table; of the counter as in calls, then the sum over the bars of the map
+/// that is kept, and nothing at all.
 pub const LIBRARY: usize = 0;
 pub const KEPT: usize = 1;
 pub const FROM_WORDS: usize = 2;
 pub const TABLE: usize = 2;
+pub const SUM: usize = 3;
+pub const NOTHING: usize = 4;
 
 /// One call at one size.
 pub struct Row {
@@ -124,6 +132,7 @@ pub struct Size {
     pub bars: usize,
     pub hits: usize,
     pub calls: Vec<Row>,
+    pub counter: Timed,
     pub write: Timed,
     /// Of the segment that is written.
     pub bytes: usize,
@@ -185,6 +194,22 @@ fn time_held(pad: &mut [u32], map: &mut Map, bar: &Given, count: usize) -> Timed
     ))
 }
 
+/// The number of all hits: the library reads a word; the map has kept it, or adds it up, or is read from the words for it.
+fn time_counter(pad: &[u32], map: &Map, count: usize) -> Timed {
+    let right = map.hits();
+    assert_eq!((hits(pad).kind, hits(pad).first, map.sum()), (0, right as u64, right), "the hits");
+    Timed(rounds(
+        count,
+        &mut [
+            &mut || assert_eq!(black_box(hits(black_box(pad))).first, right as u64),
+            &mut || assert_eq!(black_box(black_box(map).hits()), right),
+            &mut || assert_eq!(black_box(held(pad).hits()), right),
+            &mut || assert_eq!(black_box(black_box(map).sum()), right),
+            &mut || assert_eq!(black_box(right), right),
+        ],
+    ))
+}
+
 /// The answers compared, then the times.
 fn time_size(count: usize, hits: usize, runs: usize) -> Size {
     eprintln!("a pad of {count} bars with {hits} hits each");
@@ -203,6 +228,7 @@ fn time_size(count: usize, hits: usize, runs: usize) -> Size {
         calls.insert(1, Row { name: "read, the last bar", times: time_read(&pad, &map, last, runs) });
         calls.insert(3, Row { name: "erase and save, the last bar", times: time_again(&mut pad, &mut map, last, runs) });
     }
+    let counter = time_counter(&pad, &map, runs);
     let write = Timed(rounds(
         runs,
         &mut [
@@ -212,7 +238,7 @@ fn time_size(count: usize, hits: usize, runs: usize) -> Size {
         ],
     ));
     compare_written(&pad, &map, &names, &mut out);
-    Size { bars: count, hits: count * hits, calls, write, bytes }
+    Size { bars: count, hits: count * hits, calls, counter, write, bytes }
 }
 
 /// From a small pad to a full one.
@@ -221,15 +247,16 @@ pub fn all(runs: usize) -> Vec<Size> {
 }
 
 /// The stack of each call on a full pad.
-pub fn depths() -> [(&'static str, usize); 4] {
+pub fn depths() -> [(&'static str, usize); 5] {
     let bars = bars(256, 32);
     let (mut pad, _) = recorded(&bars);
     let (names, bar) = (names(), &bars[0]);
     let mut lent = (vec![0; 32], vec![0; 32]);
     let mut out = vec![0; 1 << 18];
+    let hits = stack::depth(&mut || assert_eq!(black_box(hits(&pad)).kind, 0));
     let read = stack::depth(&mut || assert_eq!(black_box(read(&pad, bar.id, &mut lent)).kind, 0));
     let write = stack::depth(&mut || assert_eq!(black_box(write(&pad, &names, &mut out)).kind, 0));
     let erase = stack::depth(&mut || assert_eq!(black_box(erase(&mut pad, bar.id)).kind, 0));
     let save = stack::depth(&mut || assert_eq!(black_box(save(&mut pad, bar)).kind, 0));
-    [("pad_save", save), ("pad_erase", erase), ("pad_read", read), ("pad_write", write)]
+    [("pad_save", save), ("pad_erase", erase), ("pad_read", read), ("pad_write", write), ("pad_hits", hits)]
 }

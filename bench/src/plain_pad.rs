@@ -73,6 +73,16 @@ impl Map {
         Ok((bar.hits.len(), bar.length))
     }
 
+    /// The number of all hits, which saving and erasing keep, since 19 asks for it.
+    pub fn hits(&self) -> usize {
+        self.hits
+    }
+
+    /// The same, added up.
+    pub fn sum(&self) -> usize {
+        self.bars.values().map(|bar| bar.hits.len()).sum()
+    }
+
     /// The writer's lists: bars by id, sounds by number, those without hits left out.
     pub fn lists(&self, names: &[String]) -> Lists {
         let mut postings: Vec<Vec<(u32, Vec<u32>)>> = vec![Vec::new(); 128];

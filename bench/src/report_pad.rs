@@ -1,6 +1,6 @@
 //! The tables of pads.
 use crate::measure::Timed;
-use crate::pad::{Size, FROM_WORDS, KEPT, LIBRARY, TABLE};
+use crate::pad::{Size, FROM_WORDS, KEPT, LIBRARY, NOTHING, SUM, TABLE};
 use crate::report::{grouped, head, line};
 use crate::text;
 
@@ -24,6 +24,20 @@ fn calls(all: &[Size]) {
             line(counts.into_iter().chain([ours, kept, ratio(&row.times, KEPT), from_words, ratio(&row.times, FROM_WORDS)]));
         }
     }
+}
+
+/// Nanoseconds of each, and how far the library's grow.
+fn counter(all: &[Size]) {
+    let names =
+        ["hits", "`pad_hits`: ns", "a map, its total: ns", "its bars added up: ns", "read from the words: ns", "nothing: ns"];
+    head("Bars", names.map(String::from));
+    for size in all {
+        let times = [LIBRARY, KEPT, SUM, FROM_WORDS, NOTHING].map(|who| format!("{:.1}", size.counter.of(who)));
+        line([size.bars, size.hits].map(grouped).into_iter().chain(times));
+    }
+    let times = || all.iter().map(|size| size.counter.of(LIBRARY));
+    let (most, least) = (times().fold(0.0, f64::max), times().fold(f64::MAX, f64::min));
+    println!("\nThe longest of these times of `pad_hits` is {:.2} of the shortest.", most / least);
 }
 
 fn written(all: &[Size]) {
@@ -55,6 +69,8 @@ fn aims(all: &[Size]) {
 pub fn section(all: &[Size]) {
     println!("{}", text::PAD);
     calls(all);
+    println!("\n{}", text::PAD_COUNTER);
+    counter(all);
     println!("\n{}", text::PAD_WRITTEN);
     written(all);
     println!("\n{}", text::PAD_AIM);

@@ -150,10 +150,16 @@ No quadratic case: from one number of bars to ten times as many, the nanoseconds
 pub const PAD: &str = "\
 The calls on a pad have no original. Beside them runs a plain map in Rust (`bench/src/plain_pad.rs`): a `BTreeMap` from id to bar, with a
 vector of hits each and the same rules for saving. It is kept from call to call and trusts itself. The library is given 17,154 words that
-may be anything, and every call first looks at all that they hold, for 20: that is the last row of each size, a save whose id is held, and
-most of the others. So the map also runs as a program would use it that has to keep its pad in such words: read from them and checked in
-each call, and put back by a call that changes it. Bars of 64 steps with hits of any sounds, ids 3 apart; the first bar is the one with
-most bars behind it to be moved. Replies, words and what was read back were compared first.
+may be anything, and every call but the counter first looks at all that they hold, for 20: that is the last row of each size, a save whose
+id is held, and most of the others. So the map also runs as a program would use it that has to keep its pad in such words: read from them
+and checked in each call, and put back by a call that changes it. Bars of 64 steps with hits of any sounds, ids 3 apart; the first bar is
+the one with most bars behind it to be moved. Replies, words and what was read back were compared first.
+";
+
+pub const PAD_COUNTER: &str = "\
+The number of hits, which a display asks for at every beat. `pad_hits` reads one word and looks at no other. The map has the total as well,
+since saving needs it for 19; beside it the same added up over its bars, and the map read from the words and checked, as above. The last
+column is the loop around each, with nothing called:
 ";
 
 pub const PAD_WRITTEN: &str = "\

@@ -71,6 +71,7 @@ void test_empty(void) {
     expect_reply(note, pstp_pad_erase(NULL, 0, 3), refused(20, 0, 0));
     expect_reply(note, pstp_pad_read(NULL, 0, 3, NULL, 0, NULL, 0), refused(20, 0, 0));
     expect_reply(note, pstp_pad_write(NULL, 0, NULL, 0, NULL, 0, NULL, 0), refused(20, 0, 0));
+    expect_reply(note, pstp_pad_hits(NULL, 0), accepted(0, 0));
     expect_reply(note, pstp_pad_save(pad, PSTP_PAD_WORDS, 3, 4, NULL, 0, NULL, 0), accepted(0, 0));
     expect_reply(note, pstp_pad_read(pad, PSTP_PAD_WORDS, 3, NULL, 0, NULL, 0), accepted(0, 4));
     expect_reply(note, pstp_pad_save(pad, PSTP_PAD_WORDS, 4, 4, kick, 1, none, 1), accepted(1, 0));

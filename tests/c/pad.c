@@ -6,6 +6,10 @@
 #include <stdio.h>
 #include <string.h>
 
+static void expect_hits(const char *note, uint64_t want) {
+    expect_reply(note, pstp_pad_hits(recorded(), PSTP_PAD_WORDS), accepted(want, 0));
+}
+
 static void save(const char *note, uint32_t id, uint32_t length, const char *list) {
     struct hits h = hits(list);
     expect_saved(note, id, length, &h, accepted(h.sounds_len, 0));
@@ -18,8 +22,11 @@ static void test_two_bars(bool zeros) {
     struct names names = sound_names("36=kick 38=snare");
     struct hits bar_3 = hits("36:0 36:4 36:15 38:8 38:14");
     new_pad(zeros);
+    expect_hits("no hits on an empty pad", 0);
     save(note, 7, 16, "36:2 38:3 38:4");
+    expect_hits("3 hits of bar 7", 3);
     save(note, 3, 16, "36:0 36:4 36:15 38:8 38:14");
+    expect_hits("5 more of bar 3", 8);
     for (size_t sounds = 0; sounds <= 7; sounds++) {
         for (size_t steps = 0; steps <= 7; steps++) {
             pstp_reply none = refused(PSTP_NO_ROOM, sounds < 5 ? 1 : 2, 5);
@@ -90,10 +97,13 @@ static void test_refusals(bool zeros) {
         pstp_reply want = refused(refusals[i].kind, refusals[i].which, 0);
         expect_saved(refusals[i].note, refusals[i].id, refusals[i].length, &h, want);
     }
+    expect_hits("refused saves leave the number of hits", 1);
     save("a bar without hits is a bar", 2, 0, "");
+    expect_hits("a bar without hits adds none", 1);
     expect_saved("and is held", 2, 1, &none, refused(PSTP_ALREADY_HELD, 0, 0));
     expect_erased("a bar erased", 1, accepted(1, 0));
     expect_erased("an erased bar is unknown", 1, refused(PSTP_UNKNOWN_BAR, 0, 0));
+    expect_hits("a refused erasure leaves the number of hits", 0);
     expect_back("an erased bar is unknown", 1, MOST_HITS, MOST_HITS, NULL, refused(PSTP_UNKNOWN_BAR, 0, 0));
     expect_back("a bar without hits, no room", 2, 0, 0, &none, accepted(0, 0));
     expect_map("a bar without hits");
@@ -226,7 +236,9 @@ static void test_search(void) {
     expect_reply("fill", pstp_pad_save(pad, PSTP_PAD_WORDS, 5, 16, sounds, 3, fill, 3), accepted(3, 0));
     expect_reply("off", pstp_pad_save(pad, PSTP_PAD_WORDS, 7, 16, sounds, 3, off, 3), accepted(3, 0));
     expect_reply("bar 5 again", pstp_pad_save(pad, PSTP_PAD_WORDS, 5, 16, sounds, 3, off, 3), refused(PSTP_ALREADY_HELD, 0, 0));
+    expect_reply("9 hits", pstp_pad_hits(pad, PSTP_PAD_WORDS), accepted(9, 0));
     expect_reply("bar 5 erased", pstp_pad_erase(pad, PSTP_PAD_WORDS, 5), accepted(3, 0));
+    expect_reply("6 hits", pstp_pad_hits(pad, PSTP_PAD_WORDS), accepted(6, 0));
     pstp_reply r = pstp_pad_write(pad, PSTP_PAD_WORDS, text, 9, ends, PSTP_PAD_SOUNDS, segment, sizeof segment);
     expect_reply("two bars written", r, accepted(163, 0));
     r = pstp_phrase_match_strs(segment, 163, text, 9, phrase_ends, 2, found, 3);

@@ -1,4 +1,5 @@
-/* Words that are no pad: 20 in all four calls, before whatever else is wrong, and nothing is changed. */
+/* Words that are no pad: 20 in every call but the hit counter, before whatever else is wrong; the counter answers the stored number.
+ * Nothing is changed. */
 #define _DEFAULT_SOURCE
 #include "build.h"
 #include "check.h"
@@ -84,7 +85,12 @@ static uint32_t before[PSTP_PAD_WORDS + 1];
 static const uint8_t *long_bytes; /* one more than a list may have */
 static const uint32_t *long_words;
 
-/* 20 to every call on these words, with nothing else wrong and with each other refusal beside it. */
+/* Word 1 as it is stored, if there is one. */
+static void expect_stored(const char *note, const uint32_t *pad, size_t len) {
+    expect_reply(note, pstp_pad_hits(pad, len), accepted(len > PSTP_PAD_HIT_COUNT ? before[PSTP_PAD_HIT_COUNT] : 0, 0));
+}
+
+/* 20 to every call on these words but the counter, with nothing else wrong and with each other refusal beside it. */
 static void expect_broken(const char *note, uint32_t *pad, size_t len) {
     const uint8_t sounds[] = {5, 128}, text[] = {'a', 0xFF};
     const uint32_t steps[] = {0, 99};
@@ -99,6 +105,7 @@ static void expect_broken(const char *note, uint32_t *pad, size_t len) {
     }
     memset(back, 0x5A, sizeof back);
     watch(note);
+    expect_stored(note, pad, len);
     for (uint32_t id = 2; id <= 9; id++) {
         expect_reply(note, pstp_pad_save(pad, len, id, 4, sounds, 1, steps, 1), want);
         expect_reply(note, pstp_pad_save(pad, len, id, 4, sounds, 0, steps, 0), want);
@@ -119,6 +126,7 @@ static void expect_broken(const char *note, uint32_t *pad, size_t len) {
     expect_reply(note, pstp_pad_write(pad, len, text, 0, rising, 0, out.at, sizeof out.at), want);
     expect_reply(note, pstp_pad_write(pad, len, long_bytes, LIMIT + 1, rising, PSTP_PAD_SOUNDS, out.at, 0), want);
     expect_reply(note, pstp_pad_write(pad, len, text, 2, long_words, LIMIT + 1, out.at, 0), want);
+    expect_stored(note, pad, len);
     expect_filled(note, &places, nowhere, 0);
     expect_written(note, &out, &out, 0);
     expect(note, back[0] == 0x5A && memcmp(back, back + 1, sizeof back - 1) == 0);
@@ -144,6 +152,7 @@ static void test_whole(void) {
     uint8_t sounds[8];
     uint32_t steps[8];
     lay_three_bars(MOST);
+    expect_stored("8 hits", before, PSTP_PAD_WORDS);
     expect_reply("bar 3", pstp_pad_read(before, PSTP_PAD_WORDS, 3, sounds, 8, steps, 8), accepted(5, 16));
     expect_reply("bar 9", pstp_pad_read(before, PSTP_PAD_WORDS, 9, sounds, 0, steps, 0), accepted(0, 0));
     before[0] = 2;
@@ -156,6 +165,37 @@ static void test_whole(void) {
     before[22] = 127;
     expect_reply("sound 127", pstp_pad_read(before, PSTP_PAD_WORDS, 7, sounds, 8, steps, 8), accepted(3, 16));
     expect("sound 127", sounds[2] == 127);
+}
+
+/* All but the total is right: numbers around every power of two, among them the right one. */
+static void test_totals(void) {
+    lay_three_bars(MOST);
+    for (uint32_t i = 0; i < 96; i++) {
+        before[PSTP_PAD_HIT_COUNT] = ((uint32_t)1 << i / 3) - 1 + i % 3;
+        if (before[PSTP_PAD_HIT_COUNT] == 8) {
+            expect_reply("the right total", pstp_pad_read(before, PSTP_PAD_WORDS, 9, no_bytes, 0, nowhere, 0), accepted(0, 0));
+        } else {
+            expect_words_broken("a wrong total", PSTP_PAD_WORDS);
+        }
+    }
+}
+
+/* The counter touches word 1 and no other. All others lie in pages that cannot be touched; or all are constants, where a store faults. */
+static void test_counter(void) {
+    static const uint32_t totals[] = {0, 1, 8192, 8193, 2147483648u, MOST};
+    static const size_t lengths[] = {2, 3, 17153, 17154, 17155};
+    watch("the counter");
+    for (size_t i = 0; i < sizeof totals / sizeof totals[0]; i++) {
+        for (size_t k = 0; k < sizeof lengths / sizeof lengths[0]; k++) {
+            const uint32_t last[] = {MOST - totals[i], totals[i]}, *two = guarded(0, true, last, sizeof last);
+            expect_reply("words 0 and 1 alone", pstp_pad_hits(two, lengths[k]), accepted(totals[i], 0));
+            const uint32_t *one = guarded(0, false, &totals[i], sizeof totals[i]);
+            expect_reply("word 1 alone", pstp_pad_hits(one - PSTP_PAD_HIT_COUNT, lengths[k]), accepted(totals[i], 0));
+        }
+    }
+    for (size_t len = 0; len <= THREE; len++) {
+        expect_reply("constants", pstp_pad_hits(three_bars, len), accepted(len > PSTP_PAD_HIT_COUNT ? 8 : 0, 0));
+    }
 }
 
 /* Bars and hits that are laid out well, but one too many. */
@@ -251,6 +291,8 @@ void test_pad_broken(void) {
         test_broken(&broken[i], MOST);
     }
     test_whole();
+    test_totals();
+    test_counter();
     test_over_the_limits();
     test_over_the_end();
     test_lengths();

@@ -25,10 +25,11 @@ static void test_in_pieces(bool zeros) {
     for (uint32_t id = 0; id < 64; id += 2) {
         expect_erased("32 gaps", id, accepted(128, 0));
     }
-    expect("4,096 hits", recorded()[PSTP_PAD_HIT_COUNT] == 4096);
+    expect_reply("4,096 hits", pstp_pad_hits(recorded(), PSTP_PAD_WORDS), accepted(4096, 0));
     expect_saved("one more than the gaps", 200, 64, &over, full);
     expect_saved("all the gaps together", 200, 64, &half, accepted(4096, 0));
     expect_saved("a hit too many again", 0, 64, &one, full);
+    expect_reply("8,192 hits", pstp_pad_hits(recorded(), PSTP_PAD_WORDS), accepted(8192, 0));
     expect_back("bar 1", 1, 128, 128, &bar, accepted(128, 64));
     expect_segment("an empty name comes before room", &names, 0, NULL, refused(PSTP_INVALID_LAYOUT, PSTP_REASON_EMPTY_TERM, 0));
     expect_map("room in pieces");
@@ -128,6 +129,7 @@ static void test_long_lists(void) {
         }
         free(out);
     }
+    expect_reply("long lists leave the number of hits", pstp_pad_hits(pad, PSTP_PAD_WORDS), accepted(1, 0));
     expect("long lists leave the pad", memcmp(pad, before, sizeof pad) == 0);
     free(bytes);
     free(words);

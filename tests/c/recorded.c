@@ -124,6 +124,9 @@ static void lay_out(void) {
 
 static void expect_words(const char *note) {
     expect(note, memcmp(pad, must, sizeof pad) == 0);
+    uint32_t *words = guarded(0, at_end, pad, sizeof pad);
+    expect_reply(note, pstp_pad_hits(words, PSTP_PAD_WORDS), accepted(hits_held(), 0));
+    expect(note, memcmp(words, pad, sizeof pad) == 0);
 }
 
 void expect_saved(const char *note, uint32_t id, uint32_t length, const struct hits *h, pstp_reply want) {

@@ -25,7 +25,8 @@ void new_pad(bool zeros);
 /* The words as the last call left them. */
 const uint32_t *recorded(void);
 
-/* Each call with its reply. What it leaves is that of the map: a refusal and a call that only reads change nothing. */
+/* Each call with its reply. What it leaves is that of the map: a refusal and a call that only reads change nothing. The hit counter, asked
+ * after each, answers the map's sum. */
 void expect_saved(const char *note, uint32_t id, uint32_t length, const struct hits *hits, pstp_reply want);
 void expect_erased(const char *note, uint32_t id, pstp_reply want);
 void expect_back(const char *note, uint32_t id, size_t sounds_room, size_t steps_room, const struct hits *answer, pstp_reply want);

@@ -68,6 +68,9 @@ static void pad_read(void) {
 static void pad_write(void) {
     reply = pstp_pad_write(pad, PSTP_PAD_WORDS, text, 256, ends, 128, pad_segment, room > 0 ? sizeof pad_segment : 0);
 }
+static void pad_hits(void) {
+    reply = pstp_pad_hits(pad, PSTP_PAD_WORDS);
+}
 
 static void midi_bars(void) {
     size_t whole = room > 0;
@@ -187,6 +190,7 @@ static const struct row calls[] = {
     {"pad_erase", pad_erase, 64, 0, 0, 0, OTHER},
     {"pad_read", pad_read, 6144, 48, 0, 0, OTHER},
     {"pad_write", pad_write, 72 + 32 * 128 + 256 + 2 * 2 + 128 * (50 + 17), 0, 0, 0, PAD_WRITE},
+    {"pad_hits", pad_hits, 6144 + 1920, 0, 0, 0, OTHER},
 };
 
 /* The calls that make a handle, and then, with each of the three, those that take one. */

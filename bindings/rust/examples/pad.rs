@@ -21,6 +21,7 @@ fn main() -> Result<(), Error> {
     let again = pad.save(5, 16, &[]);
     println!("bar 5 again: {}", again.unwrap_err());
     println!("bar 5 erased: {} hits", pad.erase(5)?);
+    println!("on the display: {} hits", pad.hits());
     println!("bar 5: {}", pad.read(5).unwrap_err());
     let kept = pad.read(7)?;
     println!("bar 7: {} steps, {} hits", kept.length, kept.hits.len());

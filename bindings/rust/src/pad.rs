@@ -37,6 +37,7 @@ pub struct Bar {
 /// pad.save(3, 16, &[Hit { sound: 36, step: 0 }, Hit { sound: 38, step: 1 }])?;
 /// pad.save(7, 16, &[Hit { sound: 36, step: 4 }])?;
 /// pad.erase(7)?;
+/// assert_eq!(pad.hits(), 2);
 ///
 /// let mut names = [""; Pad::SOUNDS];
 /// names[36] = "kick";
@@ -92,8 +93,8 @@ impl Pad {
     /// Return a bar as it was saved. An id that is not held is [`Error::UnknownBar`].
     pub fn read(&self, id: DocId) -> Result<Bar, Error> {
         // No bar has more hits than all, so one call suffices.
-        let mut sounds = vec![0; self.hits_held()];
-        let mut steps = vec![0; self.hits_held()];
+        let mut sounds = vec![0; self.hits()];
+        let mut steps = vec![0; self.hits()];
         let (hits, length) = sys::pad_read(&self.words, id, &mut sounds, &mut steps).answer()?;
         let hits = sounds.into_iter().zip(steps).take(hits as usize);
         Ok(Bar {
@@ -115,6 +116,11 @@ impl Pad {
         Ok(front(bytes, len))
     }
 
+    /// Return the number of hits of all bars held. It is stored in the pad and not counted, so a display may ask at every beat.
+    pub fn hits(&self) -> usize {
+        sys::pad_hits(&self.words) as usize
+    }
+
     /// Return the pad's words, to store them. `include/pstp.h` of the repository describes them.
     pub fn as_words(&self) -> &[u32] {
         &self.words
@@ -122,7 +128,7 @@ impl Pad {
 
     /// Take up a pad by its words. Words that no pad can have, or another number of them, are [`Error::BrokenPad`].
     pub fn from_words(words: &[u32]) -> Result<Self, Error> {
-        // Every call tests the words before all else, and this one changes nothing.
+        // All calls but `hits` test the words before all else, and this one changes nothing.
         match sys::pad_read(words, 0, &mut [], &mut []).answer() {
             Err(Error::BrokenPad) => Err(Error::BrokenPad),
             _ => Ok(Self {
@@ -135,13 +141,9 @@ impl Pad {
         self.words[0] as usize
     }
 
-    fn hits_held(&self) -> usize {
-        self.words[1] as usize
-    }
-
     /// No segment of this pad is longer: a stored number has at most five bytes, a bar two of them, a hit at most three.
     fn most_bytes(&self, names: &Names) -> usize {
-        let (bars, hits) = (self.bars_held(), self.hits_held());
+        let (bars, hits) = (self.bars_held(), self.hits());
         72 + 32 * hits.min(Self::SOUNDS) + names.text.len() + 10 * bars + 15 * hits
     }
 }
@@ -156,7 +158,7 @@ impl fmt::Debug for Pad {
     fn fmt(&self, f: &mut fmt::Formatter<'_>) -> fmt::Result {
         f.debug_struct("Pad")
             .field("bars", &self.bars_held())
-            .field("hits", &self.hits_held())
+            .field("hits", &self.hits())
             .finish_non_exhaustive()
     }
 }

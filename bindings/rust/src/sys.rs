@@ -14,7 +14,7 @@ use crate::flat::{Lists, Names};
 use crate::Error;
 
 pub(crate) use midi::midi_bars;
-pub(crate) use pad::{pad_erase, pad_read, pad_save, pad_write};
+pub(crate) use pad::{pad_erase, pad_hits, pad_read, pad_save, pad_write};
 pub(crate) use ranked::phrase_match_ranked;
 pub(crate) use sheet::bar_sheet;
 

@@ -45,6 +45,7 @@ fn recorded() -> Pad {
 #[test]
 fn the_two_bars() {
     let pad = recorded();
+    assert_eq!(pad.hits(), 8);
     let bar_3 = Bar {
         length: 16,
         hits: hits(&BAR_3),
@@ -69,6 +70,7 @@ fn what_saving_refuses() {
     let mut refused = |id, list: &[(u8, u32)]| {
         let error = pad.save(id, 4, &hits(list)).unwrap_err();
         assert_eq!(pad.as_words(), before);
+        assert_eq!(pad.hits(), 1);
         error
     };
     assert_eq!(refused(1, &[(128, 9), (5, 0)]), Error::AlreadyHeld);
@@ -87,6 +89,7 @@ fn what_saving_refuses() {
     assert_eq!(pad.save(2, 1, &[]).unwrap_err(), Error::AlreadyHeld);
     assert_eq!(pad.erase(1).unwrap(), 1);
     assert_eq!(pad.erase(1).unwrap_err(), Error::UnknownBar);
+    assert_eq!(pad.hits(), 0);
     assert_eq!(pad.read(2).unwrap(), nothing);
 }
 
@@ -122,6 +125,7 @@ fn most_bars_and_hits() {
     }
     assert_eq!(pad.save(255, 0, &[]).unwrap_err(), Error::PadFull);
     assert_eq!(pad.read(u32::MAX).unwrap().hits, grid(8192));
+    assert_eq!(pad.hits(), 8192);
     assert_eq!(pad.erase(u32::MAX).unwrap(), 8192);
     assert_eq!(pad.save(255, 64, &grid(8193)).unwrap_err(), Error::TooLarge);
     let long: Vec<_> = (0..8193).map(|step| Hit { sound: 127, step }).collect();
@@ -172,6 +176,7 @@ fn stored_words() {
     let mut again = Pad::from_words(words).unwrap();
     assert_eq!(again.as_words(), words);
     assert_eq!(again.erase(3).unwrap(), 5);
+    assert_eq!((again.hits(), pad.hits()), (3, 8));
     assert_eq!(pad.read(3).unwrap().hits, hits(&BAR_3));
 
     let broken = |words: &[u32]| Pad::from_words(words).unwrap_err();
@@ -217,6 +222,10 @@ fn texts() {
 }
 
 type Map = BTreeMap<u32, Bar>;
+
+fn hits_in(map: &Map) -> usize {
+    map.values().map(|bar| bar.hits.len()).sum()
+}
 
 /// The map as the writer takes it.
 fn written(map: &Map, names: &[&str; Pad::SOUNDS]) -> Result<Vec<u8>, Error> {
@@ -274,7 +283,7 @@ fn random_calls() {
             } else {
                 some_hits(&mut random, length)
             };
-            let held: usize = map.values().map(|bar| bar.hits.len()).sum();
+            let held = hits_in(&map);
             let want = if map.contains_key(&id) {
                 Err(Error::AlreadyHeld)
             } else if map.len() == Pad::BARS || held + hits.len() > Pad::HITS {
@@ -292,6 +301,7 @@ fn random_calls() {
             };
             assert_eq!(pad.save(id, length, &hits), want);
         }
+        assert_eq!(pad.hits(), hits_in(&map));
         let id = random.below(ids) * 6_000_000;
         assert_eq!(pad.read(id).ok().as_ref(), map.get(&id));
         if i % 20 == 0 {

@@ -107,7 +107,9 @@ wrong-total pad differs =
           (p .reply ∙ ap erase-answer e, p .words ∙ ap (λ q. erased-words id q pad) e);
       read = λ id ss ts r ss′ ts′ p.
           let e = b .read id (length ss) (length ts) .1 no-pad in
-          (p .reply ∙ ap read-answer e, p .sounds-left ∙ ap (λ q. filled bar-sounds q ss) e, p .steps-left ∙ ap (λ q. filled bar-steps q ts) e);
+          let sounds = p .sounds-left ∙ ap (λ q. filled bar-sounds q ss) e in
+          let steps = p .steps-left ∙ ap (λ q. filled bar-steps q ts) e in
+          (p .reply ∙ ap read-answer e, sounds, steps);
       write = λ text ends out r out′ p.
           let e = b .write text ends (length out) .1 no-pad in
           (p .reply ∙ ap length-of-written e, p .left ∙ ap (λ q. filled (λ xs. xs) q out) e);

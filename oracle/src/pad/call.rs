@@ -1,5 +1,5 @@
-//! The four calls on a pad through the C interface: each slice that is handed in lies between pages that cannot be touched, and every
-//! place of the lists that are lent for an answer is watched.
+//! The calls on a pad through the C interface: each slice that is handed in lies between pages that cannot be touched, and every place of
+//! the lists that are lent for an answer is watched.
 
 use super::shrink::shown;
 use crate::handle::Pages;
@@ -29,9 +29,11 @@ pub enum Call {
         ends: Vec<u32>,
         room: usize,
     },
+    /// the counter, which is also asked after every call
+    Hits,
 }
 
-pub const CALLS: [&str; 4] = ["pad_save", "pad_erase", "pad_read", "pad_write"];
+pub const CALLS: [&str; 5] = ["pad_save", "pad_erase", "pad_read", "pad_write", "pad_hits"];
 
 impl Call {
     pub fn save(id: u32, length: u32, hits: &[(u8, u32)]) -> Self {
@@ -46,6 +48,7 @@ impl Call {
             Call::Erase { .. } => 1,
             Call::Read { .. } => 2,
             Call::Write { .. } => 3,
+            Call::Hits => 4,
         }
     }
 }
@@ -82,6 +85,7 @@ extern "C" {
         out: *mut u8,
         out_n: usize,
     ) -> Reply;
+    fn pstp_pad_hits(pad: *const u32, pad_n: usize) -> Reply;
     fn signal(number: i32, handler: extern "C" fn(i32)) -> usize;
     fn _exit(status: i32) -> !;
 }
@@ -99,7 +103,7 @@ extern "C" fn fault(number: i32) {
     } else {
         // SAFETY: `ask` is still under way, and what it set lives as long.
         let (words, call) = unsafe { *tried };
-        println!("signal {number} in: {}", shown(words, call));
+        println!("signal {number} in this call, or in the counter behind it: {}", shown(words, call));
     }
     // SAFETY: it ends the program.
     unsafe { _exit(1) }
@@ -133,8 +137,9 @@ impl Slices {
         Slices { pad, bytes, numbers, sounds, steps, out, given_left: true, at_end: false }
     }
 
-    /// Makes the call on a copy of these words, by turns at the end of its pages and at the beginning; gives the words afterwards too.
-    pub fn ask(&mut self, words: &[u32], call: &Call) -> (Reply, &[u32]) {
+    /// Makes the call on a copy of these words, by turns at the end of its pages and at the beginning, and asks the counter of what it
+    /// left, unless that was the call: asked twice, it could undo what it wrote. Gives both replies, and the words after both.
+    pub fn ask(&mut self, words: &[u32], call: &Call) -> ([Reply; 2], &[u32]) {
         self.at_end = !self.at_end;
         let pad = self.pad.put(words, self.at_end);
         let (p, n) = (pad.as_mut_ptr(), pad.len());
@@ -157,16 +162,18 @@ impl Slices {
         let mut tried = (words, call);
         TRIED.store((&mut tried as *mut Tried).cast(), Ordering::SeqCst);
         // SAFETY: every pointer comes with the length of a slice that outlives the call, and the lent ones overlap nothing.
-        let reply = unsafe {
-            match call {
+        let replies = unsafe {
+            let reply = match call {
                 Call::Save { id, length, .. } => pstp_pad_save(p, n, *id, *length, bp, bn, mp, mn),
                 Call::Erase { id } => pstp_pad_erase(p, n, *id),
                 Call::Read { id, .. } => pstp_pad_read(p, n, *id, s, sn, t, tn),
                 Call::Write { .. } => pstp_pad_write(p, n, bp, bn, mp, mn, out, out_n),
-            }
+                Call::Hits => pstp_pad_hits(p, n),
+            };
+            [reply, if *call == Call::Hits { reply } else { pstp_pad_hits(p, n) }]
         };
         TRIED.store(null_mut(), Ordering::SeqCst);
         self.given_left = b == bytes && m == numbers;
-        (reply, pad)
+        (replies, pad)
     }
 }

@@ -1,4 +1,5 @@
-//! A call on a pad made by the library and by the model, compared: the reply's seven numbers, every lent place and every word of the pad.
+//! A call on a pad made by the library and by the model, compared: the reply's seven numbers, every lent place, what the counter answers
+//! afterwards, and every word of the pad.
 
 use super::call::{Call, Slices};
 use super::model::{answer, hits_in, reply, Change, Map, Told, BARS, HITS};
@@ -71,19 +72,24 @@ impl Pads {
         Pads { slices: Slices::new(), tally: Tally::new(), differences: 0, smallest: None, astray: Vec::new() }
     }
 
-    /// Makes the call on these words, which should then be those; says what differs.
-    pub fn differs(&mut self, words: &[u32], call: &Call, told: &Told, after: &[u32]) -> Option<String> {
+    /// Makes the call on these words, which should then be this pad's; says what differs.
+    pub fn differs(&mut self, words: &[u32], call: &Call, told: &Told, pad: &Pad) -> Option<String> {
         let expected = reply(told);
-        let (reply, now) = self.slices.ask(words, call);
+        let expected_hits = reply(&answer(&pad.held, &Call::Hits));
+        let after = &pad.words[..];
+        let ([reply, hits], now) = self.slices.ask(words, call);
         let place = (0..after.len()).find(|i| now[*i] != after[*i]).filter(|_| now != after);
         let changed = place.map(|i| format!("word {i} is {}, the model's {}, before the call {}\n", now[i], after[i], words[i]));
         let (sounds, steps, bytes) = told.as_ref().map_or((&[][..], &[][..], &[][..]), |a| (&a.sounds, &a.steps, &a.bytes));
         let Slices { sounds: s, steps: t, out, given_left, .. } = &self.slices;
         let held = s.holds(sounds) && t.holds(steps) && out.holds(bytes);
-        if reply == expected && held && *given_left && changed.is_none() {
+        if reply == expected && hits == expected_hits && held && *given_left && changed.is_none() {
             return None;
         }
         let mut said = format!("the library: {reply:?}\nthe model:   {expected:?}\n");
+        if hits != expected_hits && *call != Call::Hits {
+            said += &format!("the counter afterwards: {hits:?}\nthe model's:            {expected_hits:?}\n");
+        }
         said += &changed.unwrap_or_default();
         if !given_left {
             said += "what is only read is written to\n";
@@ -100,8 +106,9 @@ impl Pads {
         let told = answer(&pad.held, call);
         self.tally.count(pad, call, &told);
         let before = pad.change(&told);
+        self.tally.count_after(pad, call, &told);
         let before = before.as_ref().unwrap_or(&pad.words);
-        if self.differs(before, call, &told, &pad.words).is_some() {
+        if self.differs(before, call, &told, pad).is_some() {
             self.differences += 1;
             let kept = Kept { words: before.clone(), call: call.clone() };
             if self.smallest.as_ref().is_none_or(|known| kept.size() < known.size()) {

@@ -182,7 +182,7 @@ fn bars_again(pads: &mut Pads) {
     expect(pads, &mut pad, &Call::save(255, 3, &[]), refused(19, 0, 0), "257 bars");
 }
 
-/// Slices of other lengths, and every damage, where all four calls answer 20 whatever else is wrong.
+/// Slices of other lengths, and every damage, where all calls but the counter answer 20 whatever else is wrong.
 fn no_pads(pads: &mut Pads) {
     let mut random = Random::new(20);
     let random = &mut random;

@@ -25,6 +25,7 @@ pub enum Kind {
     TotalMore,
     TotalLess,
     TotalMost,
+    TotalOther,
     BarsLess,
     BarsMost,
     ManyBars,
@@ -36,7 +37,7 @@ pub enum Kind {
     Random,
 }
 
-pub const KINDS: [(Kind, &str); 27] = [
+pub const KINDS: [(Kind, &str); 28] = [
     (Kind::Free, "free words are anything: the same map"),
     (Kind::IdTwice, "an id twice, side by side"),
     (Kind::IdTwiceApart, "an id twice, with bars between"),
@@ -55,6 +56,7 @@ pub const KINDS: [(Kind, &str); 27] = [
     (Kind::TotalMore, "the number of all hits one more"),
     (Kind::TotalLess, "the number of all hits one less"),
     (Kind::TotalMost, "the number of all hits 8,193 or 2^32 - 1"),
+    (Kind::TotalOther, "the number of all hits any other"),
     (Kind::BarsLess, "the number of bars one less"),
     (Kind::BarsMost, "the number of bars 257 or 2^32 - 1"),
     (Kind::ManyBars, "257 bars, each within the rules"),
@@ -168,6 +170,14 @@ pub fn damaged(random: &mut Random, map: &Map, free: &[u32], kind: Kind) -> Opti
         Kind::TotalMore => words[1] += 1,
         Kind::TotalLess if words[1] > 0 => words[1] -= 1,
         Kind::TotalMost => words[1] = random.pick(&[HITS as u32 + 1, u32::MAX, words[1] + (1 << 31)]),
+        Kind::TotalOther => {
+            let (few, edge, any) = (random.below(HITS + 1) as u32, random.edge(), random.next() as u32);
+            let other = random.pick(&[0, few, few, edge, any]);
+            if other == words[1] {
+                return None;
+            }
+            words[1] = other;
+        }
         Kind::BarsLess if n > 0 => {
             words[0] -= 1;
             known = if places[n - 1].1 > 0 { Known::Broken } else { Known::Nothing };

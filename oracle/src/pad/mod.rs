@@ -1,7 +1,7 @@
-//! The calls on a pad beside a model of wish 6, a plain map, which the Rust does not have. Read in this order:
+//! The calls on a pad beside a model of wishes 6 and 7, a plain map, which the Rust does not have. Read in this order:
 //!   model, words                   the map from document 02's words; the words that hold it, from the layout in include/pstp.h
 //!   call, compare                  the library through the C interface, between pages that cannot be touched; one call by both
-//!   tally, seen, seen_names        what was reached, clause by clause
+//!   tally, seen, seen_names, seen_hits  what was reached, clause by clause
 //!   worked, corners, names, small  examples worked out by hand, tests that meet, whole small spaces
 //!   make, damage, fill, rounds     random sequences: few ids, pads filled and torn, words that were damaged
 //!   phrases                        phrases put to what was written, against the map's own hits
@@ -18,6 +18,7 @@ mod names;
 mod phrases;
 mod rounds;
 mod seen;
+mod seen_hits;
 mod seen_names;
 mod shrink;
 mod small;

@@ -1,5 +1,5 @@
-//! A pad as document 02's wish 6 has it: a plain map from id to bar, and what saving, erasing, reading back and writing out answer of it.
-//! Writing out is the Rust's writer for the map's lists; all else is written here.
+//! A pad as document 02's wishes 6 and 7 have it: a plain map from id to bar, and what saving, erasing, reading back, writing out and the
+//! counter answer of it. Writing out is the Rust's writer for the map's lists; all else is written here.
 
 use super::call::Call;
 use super::words::Held;
@@ -232,13 +232,23 @@ fn beside_broken(map: &Map, call: &Call) -> Vec<Test> {
             failing.extend(failed(&[(Test::Out, *room < SMALLEST_SEGMENT)]));
             failing
         }
+        Call::Hits => Vec::new(),
     }
 }
 
-/// The whole answer: 20 before all else, then the map's.
+/// Every save and erasure keeps the stored total equal to the sum over the bars held, and refused calls leave it. Words that are no pad
+/// were not made so, and it is what they have.
+fn counter(held: &Held) -> u64 {
+    match held.broken {
+        None => hits_in(&held.map) as u64,
+        Some(_) => held.stored.into(),
+    }
+}
+
+/// The whole answer: the counter's, which alone does not test for 20; else 20 before all else, then the map's.
 pub fn answer(held: &Held, call: &Call) -> Told {
     let map = &held.map;
-    if held.broken.is_some() {
+    if held.broken.is_some() && *call != Call::Hits {
         return Err(Refused::by([vec![Test::Broken], beside_broken(map, call)].concat(), 0));
     }
     match call {
@@ -265,5 +275,6 @@ pub fn answer(held: &Held, call: &Call) -> Told {
             Ok(Answer { first: needed as u64, second: bar.length.into(), sounds, steps, ..Answer::default() })
         }
         Call::Write { text, ends, room } => write(map, text, ends, *room),
+        Call::Hits => Ok(Answer { first: counter(held), ..Answer::default() }),
     }
 }

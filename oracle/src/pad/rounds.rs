@@ -90,7 +90,7 @@ fn from_empty(pads: &mut Pads, runner: &mut Runner, random: &mut Random) {
     pads.hold(&pad);
 }
 
-/// Words that were damaged: all four calls on them, whatever else is wrong; where they are still a pad, a sequence from there.
+/// Words that were damaged: every call on them, whatever else is wrong; where they are still a pad, a sequence from there.
 fn from_damaged(pads: &mut Pads, runner: &mut Runner, random: &mut Random) {
     let map = map(random);
     let free = if random.chance(50) { vec![0; WORDS] } else { (0..WORDS).map(|_| random.next() as u32 >> 24).collect() };
@@ -120,9 +120,10 @@ fn from_damaged(pads: &mut Pads, runner: &mut Runner, random: &mut Random) {
     }
 }
 
-/// The four calls on words that are no pad: with arguments that would pass on the map from before, and with any.
+/// The calls on words that are no pad, the counter first: with arguments that would pass on the map from before, and with any.
 pub fn each_on_broken(pads: &mut Pads, random: &mut Random, pad: &mut Pad, before: &Map, ids: &[u32]) {
     let id = some_id(random, ids);
+    drop(pads.run(pad, &Call::Hits));
     let mut told: Vec<Told> = Vec::new();
     told.push(pads.run(pad, &make::save(random, id, 6, 40)));
     told.push(pads.run(pad, &Call::Erase { id }));

@@ -3,7 +3,7 @@
 use super::call::Call;
 use super::compare::Pad;
 use super::model::{hits_in, Bar, Test, Told, BARS, HITS, LARGEST};
-use super::seen_names;
+use super::{seen_hits, seen_names};
 
 /// A call, before the pad is changed.
 pub struct Facts<'a> {
@@ -19,14 +19,14 @@ pub struct Facts<'a> {
 
 pub type Clause = (&'static str, fn(&Facts) -> bool);
 
-pub const TABLES: [&[Clause]; 4] = [SAVE, ERASE, READ, seen_names::WRITE];
+pub const TABLES: [&[Clause]; 5] = [SAVE, ERASE, READ, seen_names::WRITE, seen_hits::HITS_ASKED];
 
 impl<'a> Facts<'a> {
     pub fn new(pad: &'a Pad, call: &'a Call, told: &'a Told) -> Self {
         let map = pad.map();
         let id = match call {
             Call::Save { id, .. } | Call::Erase { id } | Call::Read { id, .. } => *id,
-            Call::Write { .. } => 0,
+            Call::Write { .. } | Call::Hits => 0,
         };
         let (below, held) = (map.range(..id).count(), map.contains_key(&id));
         Facts { pad, call, told, bars: map.len(), hits: hits_in(map), below, held }
@@ -45,7 +45,7 @@ impl<'a> Facts<'a> {
         match self.call {
             Call::Save { id, length, sounds, steps } => (*id, *length, sounds, steps),
             Call::Erase { id } | Call::Read { id, .. } => (*id, 0, &[], &[]),
-            Call::Write { .. } => (0, 0, &[], &[]),
+            Call::Write { .. } | Call::Hits => (0, 0, &[], &[]),
         }
     }
 

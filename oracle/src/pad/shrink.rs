@@ -34,14 +34,15 @@ fn weight(call: &Call) -> (usize, u64) {
         Call::Erase { id } => (0, u64::from(*id)),
         Call::Read { id, room } => (room[0] + room[1], u64::from(*id)),
         Call::Write { text, ends, room } => (text.len() + ends.len() + room, 0),
+        Call::Hits => (0, 0),
     }
 }
 
 impl Kept {
-    /// What a smaller one has less of: words that are not 0 and elements first, then the numbers themselves.
+    /// What a smaller one has less of: words that are not 0, elements and calls before the counter first, then the numbers themselves.
     pub fn size(&self) -> (usize, u64) {
         let (elements, numbers) = weight(&self.call);
-        let set = self.words.iter().filter(|word| **word != 0).count();
+        let set = self.words.iter().filter(|word| **word != 0).count() + usize::from(self.call != Call::Hits);
         (set + elements + self.words.len().abs_diff(WORDS), sum(&self.words) + numbers)
     }
 }
@@ -58,6 +59,7 @@ pub fn shown(words: &[u32], call: &Call) -> String {
         Call::Erase { id } => format!(" id={id}"),
         Call::Read { id, room } => format!(" id={id} room={}", join(room)),
         Call::Write { text, ends, room } => format!(" text={} ends={} room={room}", hex(text), join(ends)),
+        Call::Hits => String::new(),
     };
     format!("--pad-case '{said}'")
 }
@@ -82,6 +84,7 @@ fn parsed(line: &str) -> Option<Kept> {
             let (text, ends) = (unhex(value("text").unwrap_or(""))?, numbers(value("ends").unwrap_or(""))?);
             Call::Write { text, ends, room: value("room")?.parse().ok()? }
         }
+        "pad_hits" => Call::Hits,
         _ => return None,
     };
     Some(Kept { words, call })
@@ -92,7 +95,7 @@ fn tried(pads: &mut Pads, kept: &Kept) -> (Told, Option<String>) {
     let mut pad = Pad::of(kept.words.clone());
     let told = answer(&pad.held, &kept.call);
     let before = pad.change(&told);
-    let said = pads.differs(before.as_ref().unwrap_or(&pad.words), &kept.call, &told, &pad.words);
+    let said = pads.differs(before.as_ref().unwrap_or(&pad.words), &kept.call, &told, &pad);
     (told, said)
 }
 
@@ -162,7 +165,7 @@ fn smaller_words(pad: &Pad) -> impl Iterator<Item = Vec<u32>> + '_ {
 
 fn smaller_calls(call: &Call) -> Vec<Call> {
     let lower = |id: u32| [0, 1, id / 2, id.saturating_sub(1)];
-    let mut all = Vec::new();
+    let mut all = vec![Call::Hits];
     match call {
         Call::Save { id, length, sounds, steps } => {
             for part in parts(sounds.len().max(steps.len()), &[4096, 256, 16, 1]) {
@@ -184,6 +187,7 @@ fn smaller_calls(call: &Call) -> Vec<Call> {
                 all.push(Call::Write { text: text.clone(), ends: ends.clone(), room });
             }
         }
+        Call::Hits => {}
     }
     all
 }

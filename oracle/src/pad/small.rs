@@ -1,4 +1,4 @@
-//! Whole small spaces: every sequence of a few calls, every short list of hits, every pad of a few small words.
+//! Whole small spaces: every sequence of a few calls, every short list of hits, every pad of a few small words, every short slice.
 
 use super::call::Call;
 use super::compare::{Pad, Pads};
@@ -51,7 +51,7 @@ fn lists(pads: &mut Pads, most: u32) {
     }
 }
 
-/// Every pad whose first words are below 3, and the four calls on it: the words that follow are 0.
+/// Every pad whose first words are below 3, and each call on it: the words that follow are 0.
 fn words(pads: &mut Pads, count: u32) {
     for choice in 0..3usize.pow(count) {
         let mut words = vec![0; super::words::WORDS];
@@ -67,10 +67,22 @@ fn words(pads: &mut Pads, count: u32) {
     }
 }
 
+/// Every slice of up to 4 words out of five, where the counter answers the second.
+fn slices(pads: &mut Pads) {
+    const KINDS: [u32; 5] = [0, 1, 2, 8193, u32::MAX];
+    for count in 0..=4 {
+        for choice in 0..KINDS.len().pow(count) {
+            let words = (0..count).map(|i| KINDS[choice / KINDS.len().pow(i) % KINDS.len()]).collect();
+            drop(pads.run(&mut Pad::of(words), &Call::Hits));
+        }
+    }
+}
+
 /// Sequences of 4 calls, lists of up to 3 hits, the first 9 words; with the whole space 5, 4 and 12.
 pub fn all(pads: &mut Pads, whole: bool) {
     let calls = alphabet();
     sequences(pads, &Pad::empty(), &calls, if whole { 5 } else { 4 });
     lists(pads, if whole { 4 } else { 3 });
     words(pads, if whole { 12 } else { 9 });
+    slices(pads);
 }

@@ -3,18 +3,21 @@
 use super::call::{Call, CALLS};
 use super::compare::Pad;
 use super::damage::KINDS;
-use super::model::{Test, Told};
+use super::model::{answer, Test, Told};
 use super::seen::{Facts, TABLES};
 use super::words::{Damage, DAMAGES};
 
 use Test::*;
 
-/// The tests of each call in their order; of the names of sounds with hits any can come first.
-const TESTS: [&[Test]; 4] = [
+const N: usize = CALLS.len();
+
+/// The tests of each call in their order; of the names of sounds with hits any can come first, and the counter has none.
+const TESTS: [&[Test]; N] = [
     &[Broken, Held, LongList, Lengths, Sound, Order, Step, Full],
     &[Broken, Unknown],
     &[Broken, Unknown, Sounds, Steps],
     &[Broken, LongText, LongEnds, EndsCount, EndsFall, EndsLast, NotUtf8, Empty, NotRising, Out],
+    &[],
 ];
 
 const NAMES: [Test; 3] = [NotUtf8, Empty, NotRising];
@@ -81,15 +84,17 @@ fn print_counts(counts: impl Iterator<Item = (&'static str, u64)>, missing: &mut
 const COUNT: usize = Strange as usize + 1;
 
 pub struct Tally {
-    pub calls: [u64; 4],
-    accepted: [u64; 4],
-    refused: [[u64; COUNT]; 4],
+    pub calls: [u64; N],
+    accepted: [u64; N],
+    refused: [[u64; COUNT]; N],
     together: Vec<[[u64; COUNT]; COUNT]>,
-    damages: [[u64; 4]; DAMAGES.len()],
+    damages: [[u64; N]; DAMAGES.len()],
+    /// by call, how often the counter was asked after it, after an accepted one and after a refused one; itself it is asked alone
+    after: [[u64; 2]; N],
     /// calls on words that were damaged in a known way
     pub kinds: [u64; KINDS.len()],
     /// by call, the clauses of its table
-    seen: [Vec<u64>; 4],
+    seen: [Vec<u64>; N],
     /// words of the model's that were read again
     pub held: u64,
     /// verdicts of the model that were held against what a damage does
@@ -102,11 +107,12 @@ pub struct Tally {
 impl Tally {
     pub fn new() -> Self {
         Tally {
-            calls: [0; 4],
-            accepted: [0; 4],
-            refused: [[0; COUNT]; 4],
-            together: vec![[[0; COUNT]; COUNT]; 4],
-            damages: [[0; 4]; DAMAGES.len()],
+            calls: [0; N],
+            accepted: [0; N],
+            refused: [[0; COUNT]; N],
+            together: vec![[[0; COUNT]; COUNT]; N],
+            damages: [[0; N]; DAMAGES.len()],
+            after: [[0; 2]; N],
             kinds: [0; KINDS.len()],
             seen: TABLES.map(|table| vec![0; table.len()]),
             held: 0,
@@ -116,8 +122,9 @@ impl Tally {
         }
     }
 
+    /// The calls, without the counter after each.
     pub fn total(&self) -> u64 {
-        self.calls.iter().sum()
+        self.after.iter().flatten().sum()
     }
 
     /// Counts a call, before the pad is changed.
@@ -143,6 +150,14 @@ impl Tally {
         }
     }
 
+    /// Counts the counter that is asked after a call, of the pad that it left.
+    pub fn count_after(&mut self, pad: &Pad, call: &Call, told: &Told) {
+        self.after[call.number()][usize::from(told.is_err())] += 1;
+        if *call != Call::Hits {
+            self.count(pad, &Call::Hits, &answer(&pad.held, &Call::Hits));
+        }
+    }
+
     fn count_damage(&mut self, damage: Damage, call: usize) {
         let place = DAMAGES.iter().position(|(known, _)| *known == damage).expect("every damage is listed");
         self.damages[place][call] += 1;
@@ -150,16 +165,23 @@ impl Tally {
 
     /// Prints everything; answers how many clauses were not reached.
     pub fn print(&self) -> usize {
-        println!("\npads: {} calls; words of the model's read again: {}", self.total(), self.held);
+        println!("\npads: {} calls, the counter after each; words of the model's read again: {}", self.total(), self.held);
         println!("verdicts held against a known damage: {}", self.known);
         println!("pads written out and asked: {}, phrases held against the map's own hits: {}", self.written, self.phrases);
         let mut missing = Vec::new();
-        for call in 0..4 {
+        for call in 0..N {
             self.print_call(call, &mut missing);
         }
-        println!("words that are no pad, by the first rule that they break: save, erase, read, write");
+        println!("the counter was asked after accepted calls, after refused ones, and by itself:");
+        for (call, [accepted, refused]) in CALLS.iter().zip(self.after) {
+            println!("  {call:60}{accepted:>10}{refused:>10}");
+            if accepted == 0 || (refused == 0 && *call != "pad_hits") {
+                missing.push(format!("the counter after {call}"));
+            }
+        }
+        println!("words that are no pad, by the first rule that they break: save, erase, read, write, the counter");
         for ((_, said), counts) in DAMAGES.iter().zip(self.damages) {
-            println!("  {said:60}{:>10}{:>10}{:>10}{:>10}", counts[0], counts[1], counts[2], counts[3]);
+            println!("  {said:60}{}", counts.map(|count| format!("{count:>10}")).concat());
             let none = CALLS.iter().zip(counts).filter(|(_, count)| *count == 0);
             missing.extend(none.map(|(call, _)| format!("{call}: {said}")));
         }

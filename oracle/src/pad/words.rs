@@ -43,6 +43,8 @@ pub const DAMAGES: [(Damage, &str); 13] = [
 pub struct Held {
     pub map: Map,
     pub broken: Option<Damage>,
+    /// the number of all hits as these words had it, right or wrong; 0 where they ended before it
+    pub stored: u32,
 }
 
 impl Held {
@@ -58,6 +60,7 @@ impl Held {
         held.tell(words.len() > WORDS, Damage::Longer);
         let mut rest = words.iter().copied();
         let (bars, hits) = (rest.next().unwrap_or(0), rest.next().unwrap_or(0));
+        held.stored = hits;
         held.tell(bars as usize > BARS, Damage::Bars);
         held.tell(hits as usize > HITS, Damage::Hits);
         let (mut remaining, mut before) = (hits, None);
@@ -96,6 +99,17 @@ impl Held {
         }
         hits
     }
+}
+
+/// The sum of the bars' numbers of hits, whatever the pad's number is; none where they are no bars, or run over the end.
+pub fn counted(words: &[u32]) -> Option<u64> {
+    let bars = words.first().filter(|bars| **bars as usize <= BARS)?;
+    let (mut sum, mut at) = (0, 2);
+    for _ in 0..*bars {
+        let count = u64::from(*words.get(at + 2)?);
+        (sum, at) = (sum + count, at + 3 + 2 * count as usize);
+    }
+    (at <= words.len()).then_some(sum)
 }
 
 /// The words of a map.

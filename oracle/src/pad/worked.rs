@@ -2,7 +2,8 @@
 //! A hit is sound:step. `lists` is a save of sounds and steps as they are. `read ID` has the places of sounds and of steps, and behind the
 //! colon what they then hold. `write` has the names that are not empty, by sound number, and the places of out; `bytes` is a part of what
 //! was written last, from an offset on, and `phrase` the bars that a phrase finds in it. `run N` repeats a call with @ counting from 0, @2
-//! by twos. `grid N L` is N hits: sound 0 on steps 0 to L - 1, then sound 1, and so on. Every example begins with a pad of zeros.
+//! by twos. `grid N L` is N hits: sound 0 on steps 0 to L - 1, then sound 1, and so on. `hits` asks the counter; `word I W` makes W the
+//! word at I, and `words N` cuts or lengthens the pad to N words. Every example begins with a pad of zeros.
 
 use super::call::Call;
 use super::compare::{Pad, Pads};
@@ -76,6 +77,47 @@ save 256 1 0:0 = accepted 1 0
 read 256 1 1 = accepted 1 1 : 0:0
 write 0=a out 2000 = accepted 621 0";
 
+/// The counter: the sum over the bars held, which refused calls leave; then a wrong total, a right one on words that are no pad, and slices
+/// of other lengths.
+const COUNTED: &str = "
+hits = accepted 0 0
+save 7 16 36:2 38:3 38:4 = accepted 3 0
+hits = accepted 3 0
+save 3 16 36:0 36:4 = accepted 2 0
+hits = accepted 5 0
+save 3 16 36:0 = refused 18 0 0
+save 9 16 36:16 = refused 6 21 0
+erase 4 = refused 16 0 0
+hits = accepted 5 0
+word 1 6
+hits = accepted 6 0
+save 9 16 36:0 = refused 20 0 0
+erase 7 = refused 20 0 0
+read 7 3 3 = refused 20 0 0
+write 36=a 38=b out 500 = refused 20 0 0
+hits = accepted 6 0
+word 1 4
+hits = accepted 4 0
+erase 7 = refused 20 0 0
+word 1 4294967295
+hits = accepted 4294967295 0
+word 1 5
+word 0 257
+hits = accepted 5 0
+erase 7 = refused 20 0 0
+word 0 2
+erase 7 = accepted 3 0
+hits = accepted 2 0
+words 17155
+hits = accepted 2 0
+erase 3 = refused 20 0 0
+words 2
+hits = accepted 2 0
+words 1
+hits = accepted 0 0
+words 0
+hits = accepted 0 0";
+
 fn pair(word: &str) -> Option<Hit> {
     let (sound, step) = word.split_once(':')?;
     Some((sound.parse().ok()?, step.parse().ok()?))
@@ -107,6 +149,7 @@ fn call(words: &[&str]) -> Option<Call> {
         ["erase", id] => Call::Erase { id: id.parse().ok()? },
         ["read", id, sounds, steps] => Call::Read { id: id.parse().ok()?, room: [sounds.parse().ok()?, steps.parse().ok()?] },
         ["write", names @ .., "out", room] => write(names, room)?,
+        ["hits"] => Call::Hits,
         _ => return None,
     })
 }
@@ -158,6 +201,16 @@ fn line(pads: &mut Pads, runner: &mut Runner, pad: &mut Pad, written: &mut Vec<u
             let ids: Vec<u32> = said.iter().map(|id| id.parse().ok()).collect::<Option<_>>()?;
             return (found(runner, written, names)? == ids).then_some(());
         }
+        ["word", at, word] => {
+            *pad.words.get_mut(at.parse::<usize>().ok()?)? = word.parse().ok()?;
+            *pad = Pad::of(std::mem::take(&mut pad.words));
+            return Some(());
+        }
+        ["words", count] => {
+            pad.words.resize(count.parse().ok()?, 0);
+            *pad = Pad::of(std::mem::take(&mut pad.words));
+            return Some(());
+        }
         _ => {}
     }
     let expected = reply(&said)?;
@@ -178,7 +231,7 @@ fn line(pads: &mut Pads, runner: &mut Runner, pad: &mut Pad, written: &mut Vec<u
 }
 
 pub fn all(pads: &mut Pads, runner: &mut Runner) {
-    for example in [RECORDED, REFUSED, FULL, ONE, BARS] {
+    for example in [RECORDED, REFUSED, FULL, ONE, BARS, COUNTED] {
         let (mut pad, mut written) = (Pad::empty(), Vec::new());
         for said in example.lines().filter(|said| !said.is_empty()) {
             if line(pads, runner, &mut pad, &mut written, said).is_none() {

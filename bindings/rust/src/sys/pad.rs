@@ -34,6 +34,7 @@ extern "C" {
         out: *mut u8,
         out_len: usize,
     ) -> Reply;
+    fn pstp_pad_hits(pad: *const u32, pad_len: usize) -> Reply;
 }
 
 pub(crate) fn pad_save(
@@ -92,4 +93,10 @@ pub(crate) fn pad_write(pad: &[u32], names: &Names, out: &mut [u8]) -> Reply {
             out.len(),
         )
     }
+}
+
+/// The total as it is stored: this call refuses nothing.
+pub(crate) fn pad_hits(pad: &[u32]) -> u64 {
+    // SAFETY: one slice, which is only read.
+    unsafe { pstp_pad_hits(pad.as_ptr(), pad.len()) }.first
 }
