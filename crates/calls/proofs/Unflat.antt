@@ -12,12 +12,7 @@ use Rattle.segment.specs.Texts.{names}
 use Rattle.common.specs.Lists.{paired}
 use Rattle.calls.specs.Given.{given, posting, term, ends-from, laid-flat}
 use Rattle.common.specs.Lists.{parts, total, joined}
-
--- two pictures of one list, side by side
-paired-back : {A B C : Type 0} (a : C → A) (b : C → B) (f : A → B → C) → ((c : C) → f (a c) (b c) ≡ c) → (cs : List C)
-    → paired f (map a cs) (map b cs) ≡ cs
-paired-back a b f e [] = refl
-paired-back a b f e (c ∷ cs) = rw (e c, paired-back a b f e cs)
+use Rattle.common.proofs.Pairs.{paired-back}
 
 module _ {A B : Type 0} (f : B → List A) where
   parts-back : (bs : List B) → parts (map (λ b. length (f b)) bs) (joined (map f bs)) ≡ map f bs

@@ -37,6 +37,7 @@ use Rattle.midi_read.specs.Files as midi
 use Rattle.midi_bars.specs.Bars.{rising-from, bar-count, sounds-of, bars-of, given-of, lists-of}
 use Rattle.midi_bars.specs.Bars as bars
 use Rattle.midi_bars.specs.Imports.{import-file, import-into, roomy-all}
+use Rattle.length_lookup.specs.Lookup.{check-ids, check-ids-and-lengths, looked-up}
 use Rattle.pad_map.specs.Bars.{lookup, insert, without}
 use Rattle.pad_map.specs.Rules.{before, hit-fine, hits-fine, all-up-to, hits-rise, all-below, check-hits}
 use Rattle.pad_map.specs.Acts as pad
@@ -136,6 +137,10 @@ hearing = tt
 unfoldable pub importing : Unit {0}
 unfolding hearing some-of kept rising-from bar-count sounds-of bars-of bars.positions-of given-of lists-of laid-flat roomy-all
 importing = tt
+
+unfoldable pub looking-up : Unit {0}
+unfolding length-of check-ids check-ids-and-lengths looked-up
+looking-up = tt
 
 unfoldable pub mapping : Unit {0}
 unfolding lookup insert without before all-up-to hits-rise all-below check-hits pad.save pad.read

@@ -2,29 +2,16 @@
 -- Assumes nothing.
 use mathlib.Core.Path.{_≡_, refl, ap, _∙_}
 use mathlib.Core.List.{List, [], _∷_, _++_}
-use mathlib.Core.Logic.{_⊎_, ⊎-elim, inl, inr}
-use Prim.Native.Nat.{ℕ}
-use native.Mathlib.Omega.{arith}
+use mathlib.Core.Logic.{⊎-elim, inl, inr}
 use Rattle.common.specs.Elements.{_∈_}
 use Rattle.common.proofs.Elements.{each}
 use Rattle.segment.specs.declared.refusal.Refusal.{Refusal}
-use Rattle.segment.specs.Results.{Result, ok, refuse, _>>=_}
+use Rattle.segment.specs.Results.{ok, refuse}
 use Rattle.segment.specs.Records.{Document, Posting, Entry}
 use Rattle.segment.specs.Postings.{decode}
 use Rattle.segment.specs.Contents.{decode-all}
+use Rattle.segment.proofs.Refused.{ok-refuse, refused-by}
 use Rattle.claim_sheet.specs.Claims.{First-refused}
-
-pub ok-refuse : {A : Type 0} {P : Type 0} {a : A} {x : Refusal} → ok a ≡ refuse x → P
-ok-refuse e = let z : _≡_ {A = ℕ} 0 1 = cc in absurd (omega arith)
-
-pub refuse-same : {A : Type 0} {x y : Refusal} → _≡_ {A = Result A} (refuse x) (refuse y) → x ≡ y
-refuse-same e = cc
-
--- a chain that refuses: its first step does, or what follows on its value
-pub refused-by : {A B : Type 0} (r : Result A) (f : A → Result B) {x : Refusal} → (r >>= f) ≡ refuse x
-    → (r ≡ refuse x) ⊎ ((a : A) × (r ≡ ok a) × (f a ≡ refuse x))
-refused-by (ok a) f e = inr (a, refl, e)
-refused-by (refuse y) f e = inl (ap refuse (refuse-same e))
 
 abbrev Fine : List Document → Entry → Type 0
 Fine documents e = (ps : List Posting) × (decode documents e ≡ ok ps)

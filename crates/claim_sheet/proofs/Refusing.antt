@@ -1,7 +1,6 @@
 -- What is refused, in words: each of the four tests in their order, then 13.
 -- Assumes nothing.
 use mathlib.Core.Path.{_≡_, refl, sym, ap, _∙_, subst}
-use mathlib.Core.Bool.{Bool, true, false}
 use mathlib.Core.List.{List}
 use mathlib.Core.Logic.{_⊎_, ⊎-elim, inl, inr}
 use mathlib.Core.Option.{Option, none, some}
@@ -19,18 +18,15 @@ use Rattle.segment.specs.Opening.{open-segment}
 use Rattle.segment.specs.Contents.{decode-all}
 use Rattle.segment.proofs.Binds.{bind-gives, ok-same}
 use Rattle.segment.proofs.Accepted.{check-gives}
+use Rattle.segment.proofs.Refused.{ok-refuse, refuse-same, refused-by, check-refuses}
 use Rattle.segment.proofs.Inversions.{last-gives}
 use Rattle.calls.specs.Sheet.{known-bar, bar-sheet, sheet-into}
 use Rattle.claim_sheet.specs.Claims.{Has-bar, First-refused, Refused, opening, unknown, too-long, decoding}
 use Rattle.claim_sheet.specs.Claims.{Refuses-exactly, Unknown-exactly, Too-long-exactly, Other-kinds, No-room-last, Room-enough}
 use Rattle.claim_sheet.proofs.Bar-known.{bar-gives, bar-from, none-gives, none-from}
-use Rattle.claim_sheet.proofs.In-order.{ok-refuse, refuse-same, refused-by, first-gives, first-from}
+use Rattle.claim_sheet.proofs.In-order.{first-gives, first-from}
 use Rattle.claim_sheet.proofs.Early.{opening-early, decoding-early}
 use Rattle.claim_sheet.proofs.Agreed.{known-some}
-
-check-refuses : (t : Bool) (y : Refusal) {x : Refusal} → check t y ≡ refuse x → (t ≡ false) × (y ≡ x)
-check-refuses true y e = ok-refuse e
-check-refuses false y e = (refl, refuse-same e)
 
 bar-refuses : (o : Option ℕ) {x : Refusal} → known-bar o ≡ refuse x → (o ≡ none) × (unknown-bar ≡ x)
 bar-refuses none e = (refl, refuse-same e)

@@ -29,7 +29,7 @@ use Rattle.claim_sheet.specs.Written.{Bar, Shows-what-was-handed-in, She
 use Rattle.claim_sheet.proofs.Same.{one-sheet}
 use Rattle.claim_sheet.proofs.Agreed.{computed, shown-paper}
 use Rattle.claim_sheet.proofs.Bar-known.{bar-gives, none-gives}
-use Rattle.claim_sheet.proofs.In-order.{ok-refuse, refuse-same}
+use Rattle.segment.proofs.Refused.{ok-refuse, refuse-same}
 use Rattle.claim_sheet.proofs.Refusing.{refuses-exactly}
 use Rattle.claim_sheet.proofs.Standing.{hits-stand}
 

@@ -63,3 +63,9 @@ module _ {A B C : Type 0} (f : A → B → C) where
 pub paired-picture : {A B C : Type 0} (f : A → B → C) (g : A → B) (xs : List A) → paired f xs (map g xs) ≡ map (λ x. f x (g x)) xs
 paired-picture f g [] = refl
 paired-picture f g (x ∷ xs) = rw (paired-picture f g xs)
+
+-- two pictures of one list, side by side
+pub paired-back : {A B C : Type 0} (a : C → A) (b : C → B) (f : A → B → C) → ((c : C) → f (a c) (b c) ≡ c) → (cs : List C)
+    → paired f (map a cs) (map b cs) ≡ cs
+paired-back a b f e [] = refl
+paired-back a b f e (c ∷ cs) = rw (e c, paired-back a b f e cs)

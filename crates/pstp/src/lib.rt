@@ -8,10 +8,12 @@
 //   records        the writer over records
 //   midi           bars from MIDI files
 //   show           a bar on paper
+//   lookup         a length in a caller's own lists
 //   pad            a pad to record on
 // The promises are those of the calls behind.
 pub mod ask;
 pub mod handles;
+pub mod lookup;
 pub mod midi;
 pub mod pad;
 pub mod read;

@@ -1,5 +1,6 @@
 -- Laws that belong to no one function, lowest first.
 pub mod Binds
+pub mod Refused
 pub mod Accepted
 pub mod Within
 pub mod After

@@ -104,6 +104,12 @@ pad-full = refusal 19 0 0
 abbrev pub broken-pad : Refusal
 broken-pad = refusal 20 0 0
 
+-- ---- kinds of a caller's own lists (document 02)
+
+-- the id on this place, counted from 0, is the first that is not above the one before it
+abbrev pub ids-not-rising : (place : ℕ) → Refusal
+ids-not-rising p = refusal 21 0 p
+
 -- ---- reasons of an invalid layout: in what is read
 
 abbrev pub trailing-bytes : ℕ

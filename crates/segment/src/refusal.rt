@@ -5,7 +5,7 @@ ghost use mathlib.Core.Path.{_≡_};
 ghost use Rattle.segment.specs.Refusals.{truncated, invalid-magic, unsupported-version, unsupported-flags, checksum-mismatch};
 ghost use Rattle.segment.specs.Refusals.{invalid-layout, invalid-varint, doc-id-overflow, position-overflow, invalid-utf8};
 ghost use Rattle.segment.specs.Refusals.{list-shape, too-large, no-room, midi-file, bar-too-far};
-ghost use Rattle.segment.specs.Refusals.{unknown-bar, bar-too-long, already-held, pad-full, broken-pad};
+ghost use Rattle.segment.specs.Refusals.{unknown-bar, bar-too-long, already-held, pad-full, broken-pad, ids-not-rising};
 
 pub struct Refusal {
     pub kind: u32,
@@ -53,6 +53,8 @@ pub const ALREADY_HELD: u32 = 18;
 pub const PAD_FULL: u32 = 19;
 
 pub const BROKEN_PAD: u32 = 20;
+
+pub const IDS_NOT_RISING: u32 = 21;
 
 // Sections.
 pub const HEADER: u32 = 1;
@@ -331,5 +333,16 @@ pub fn broken_pad() -> Refusal
         kind: BROKEN_PAD,
         which: 0,
         index: 0,
+    }
+}
+
+// Kind 21: the place from 0 of the first id that is not above the one before it.
+pub fn ids_not_rising(place: usize) -> Refusal
+    ensures { λ r. ⌜ r ≡ ids-not-rising place ⌝ }
+{
+    Refusal {
+        kind: IDS_NOT_RISING,
+        which: 0,
+        index: place as u64,
     }
 }

@@ -19,7 +19,7 @@ pub enum Counted {
     Refused(Refusal),
 }
 
-// A document's length (`document_len`); absent where the document is unknown.
+// A document's length (`document_len`, `length_of`); absent where the document is unknown.
 pub enum Length {
     Known(u32),
     Absent,
