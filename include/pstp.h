@@ -2,15 +2,16 @@
  *
  * In a drum machine a document is a bar, a term a sound, a position a step. The calls are those of src/positional/raw.rs of
  * arclabs561/postings (see NOTICE), ported to Rattle and proved, and beyond them pstp_midi_bars, which reads bars from a MIDI file,
- * pstp_bar_sheet, which shows a bar in lines of text, pstp_phrase_match_ranked, which lists the best bars first, the calls with a handle
- * (pstp_check), for a segment that is checked once and asked often, and those on a pad (pstp_pad_save), which holds bars before they are
- * written. docs/FORMAT.md describes the format, the order of the checks and the rules of the search; docs/GLOSSARY.md explains the words.
+ * pstp_bar_sheet, which shows a bar in lines of text, pstp_phrase_match_ranked, which lists the best bars first, pstp_length_of, which
+ * looks a length up in lists of the caller's own, the calls with a handle (pstp_check), for a segment that is checked once and asked often,
+ * and those on a pad (pstp_pad_save), which holds bars before they are written. docs/FORMAT.md describes the format, the order of the
+ * checks and the rules of the search; docs/GLOSSARY.md explains the words.
  * Link with libpstp.a (`rt staticlib pstp`, x86-64 Linux). C99 and C++.
  *
  * What every call guarantees
  *
  *  - A slice is a pointer and a number of elements. The contents may be anything: broken segments, MIDI files and pads, lists that do not
- *    fit together, any name and any buffer length are either accepted or refused.
+ *    fit together or do not rise, any name and any buffer length are either accepted or refused.
  *  - A reply with kind PSTP_ACCEPTED has the answer in `first` to `fourth` (0 where the call names none), and which = index = 0. Any other
  *    kind is a refusal: kind, which and index say what was refused, first to fourth are 0, and every lent buffer is unchanged.
  *  - After acceptance an answer of n elements fills the first n elements of its buffer; the elements behind them are unchanged.
@@ -96,7 +97,10 @@ enum {
     /* Caused by a pad and what is to be saved on it. */
     PSTP_ALREADY_HELD = 18, /* the pad holds a bar of this id */
     PSTP_PAD_FULL = 19,     /* the pad holds PSTP_PAD_BARS bars, or would hold over PSTP_PAD_HITS hits */
-    PSTP_BROKEN_PAD = 20    /* the words are no pad ("A pad to record on") */
+    PSTP_BROKEN_PAD = 20,   /* the words are no pad ("A pad to record on") */
+
+    /* Caused by the ids in lists of the caller's own. */
+    PSTP_IDS_NOT_RISING = 21 /* an id is not above the one before it (index: of the first such id, from 0, so at least 1) */
 };
 
 /* Sections: `which` of kinds 1, 5 and 7. */
@@ -168,7 +172,7 @@ pstp_reply pstp_open(const uint8_t *segment, size_t segment_len);
 pstp_reply pstp_document_lengths(const uint8_t *segment, size_t segment_len, uint32_t *ids, size_t ids_len, uint32_t *lengths,
                                  size_t lengths_len);
 
-/* One document's length.
+/* One document's length. (pstp_length_of looks it up in lists of the caller's own.)
  * first: 1 and second: the length; both 0 for a document that the segment does not have.
  * Refusals: opening. */
 pstp_reply pstp_document_len(const uint8_t *segment, size_t segment_len, uint32_t id);
@@ -408,6 +412,17 @@ pstp_reply pstp_midi_bars(const uint8_t *file, size_t file_len, uint32_t *ids, s
  * Refusals: opening; 16 (no bar has this id); 17 (the bar has over 64 steps); decoding the list of every term in the order of the
  * directory, whether or not the bar has the sound; 13/1 out. */
 pstp_reply pstp_bar_sheet(const uint8_t *segment, size_t segment_len, uint32_t id, uint8_t *out, size_t out_len);
+
+/* One document's length, looked up in lists of the caller's own; no segment is needed. In the lists that pstp_document_lengths fills, as
+ * long as their answer and at most PSTP_LIMIT, it finds what pstp_document_len finds in the segment.
+ * first: 1 and second: the length beside the id; both 0 exactly if the list does not have the id. A length of 0 beside the id is 1 and 0.
+ *
+ *  ids, lengths  the documents, side by side: lengths[i] is that of ids[i], by strictly increasing id
+ *
+ * The ids are tested to the last, whatever id is asked for and wherever it is: one pass over them, then a binary search in them. Both lists
+ * are only read, and may be empty.
+ * Refusals: 12 for either list; 11 (the lists differ in length); 21 (an id that is not above the one before it, such as an equal one). */
+pstp_reply pstp_length_of(const uint32_t *ids, size_t ids_len, const uint32_t *lengths, size_t lengths_len, uint32_t id);
 
 /* A pad to record on
  *

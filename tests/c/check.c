@@ -92,6 +92,7 @@ int main(void) {
     test_midi_events();
     test_midi_limits();
     test_sheet();
+    test_lookup();
     test_pad();
     test_pad_broken();
     test_pad_limits();

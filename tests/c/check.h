@@ -43,6 +43,7 @@ void test_midi(void);
 void test_midi_events(void);
 void test_midi_limits(void);
 void test_sheet(void);
+void test_lookup(void);
 void test_pad(void);
 void test_pad_broken(void);
 void test_pad_limits(void);

@@ -65,6 +65,9 @@ void test_empty(void) {
                  refused(13, 3, 4));
     expect_reply(note, pstp_bar_sheet(NULL, 0, 3, NULL, 0), refused(1, 1, 0));
     expect_reply(note, pstp_bar_sheet(s.at, s.len, 3, NULL, 0), refused(13, 1, 243));
+    expect_reply(note, pstp_length_of(NULL, 0, NULL, 0, 3), accepted(0, 0));
+    expect_reply(note, pstp_length_of(end, 1, NULL, 0, 4), refused(11, 0, 0));
+    expect_reply(note, pstp_length_of(NULL, 0, end, 1, 4), refused(11, 0, 0));
     uint32_t pad[PSTP_PAD_WORDS] = {0}, name_ends[PSTP_PAD_SOUNDS] = {0};
     uint8_t sounds[1];
     expect_reply(note, pstp_pad_save(NULL, 0, 3, 4, NULL, 0, NULL, 0), refused(20, 0, 0));

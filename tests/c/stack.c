@@ -72,6 +72,20 @@ static void pad_hits(void) {
     reply = pstp_pad_hits(pad, PSTP_PAD_WORDS);
 }
 
+/* Lists of the caller's own, asked for their last id, or for one that they lack. */
+static uint32_t own_ids[1023], own_lengths[1023];
+
+static void make_lists(void) {
+    for (uint32_t i = 0; i < 1023; i++) {
+        own_ids[i] = 2 * i;
+        own_lengths[i] = 16 + i;
+    }
+}
+
+static void length_of(void) {
+    reply = pstp_length_of(own_ids, 1023, own_lengths, 1023, room > 0 ? 2044 : 2043);
+}
+
 static void midi_bars(void) {
     size_t whole = room > 0;
     reply = pstp_midi_bars(file.at, file.len, bars, 2 * whole, lengths, 2 * whole, sounds, 512 * whole, name_ends, 128 * whole, bar_counts,
@@ -186,6 +200,7 @@ static const struct row calls[] = {
     {"near_match", near_two, 3, 0, 0, 0, SEARCH},
     {"midi_bars", midi_bars, 2, 128, 256, 256, TABLES},
     {"bar_sheet", bar_sheet, 81 * 129, 0, 0, 0, TABLES},
+    {"length_of", length_of, 1, 16 + 1022, 0, 0, OTHER},
     {"pad_save", pad_save, 64, 0, 0, 0, OTHER},
     {"pad_erase", pad_erase, 64, 0, 0, 0, OTHER},
     {"pad_read", pad_read, 6144, 48, 0, 0, OTHER},
@@ -259,6 +274,7 @@ void test_stack(void) {
     size_t of_midi = 0, of_sheet = 0, of_pad = 0, of_check = 0;
     make_file();
     make_pad();
+    make_lists();
     for (size_t i = 0; i < sizeof calls / sizeof calls[0]; i++) {
         size_t depth = measured(&calls[i]);
         of_midi = calls[i].call == midi_bars ? depth : of_midi;

@@ -1,7 +1,7 @@
 //! Writes two bars of two sounds as a segment, lists it, and asks which bars have them near one another.
 
 use pstp::{
-    write_positional_segment, Error, PositionalPosting, PositionalTermPostings,
+    length_of, write_positional_segment, Error, PositionalPosting, PositionalTermPostings,
     RawPositionalSegment,
 };
 
@@ -22,6 +22,9 @@ fn main() -> Result<(), Error> {
     for (id, length) in segment.document_lengths()? {
         println!("bar {id}: {length} steps");
     }
+    let (ids, lengths): (Vec<_>, Vec<_>) = segment.document_lengths()?.into_iter().unzip();
+    println!("in lists, bar 7: {:?}", length_of(&ids, &lengths, 7)?);
+    println!("in lists, bar 5: {:?}", length_of(&ids, &lengths, 5)?);
     for term in ["kick", "snare", "tom"] {
         println!("{term}: in {} bars", segment.df(term)?);
         for posting in segment.term_postings(term)? {

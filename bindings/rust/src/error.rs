@@ -31,7 +31,7 @@ pub enum Error {
     PositionOverflow(usize),
     /// A term string was not valid UTF-8.
     InvalidUtf8,
-    /// Flat lists do not fit together. Slices of slices always do: no call of this crate gives it.
+    /// Flat lists do not fit together. Slices of slices always do: only [`length_of`](crate::length_of), which takes two lists, gives it.
     ListShape,
     /// A list, text or MIDI file handed in has over 16,777,216 elements, a question over 128 terms, or a sound to save is above 127.
     TooLarge,
@@ -56,6 +56,8 @@ pub enum Error {
     PadFull,
     /// Words that are no pad.
     BrokenPad,
+    /// In a list of ids, the one at this index, from 0, is the first that is not above the one before it.
+    IdsNotRising(usize),
 }
 
 /// Sections, from 1.
@@ -132,6 +134,7 @@ impl Error {
             18 => Error::AlreadyHeld,
             19 => Error::PadFull,
             20 => Error::BrokenPad,
+            21 => Error::IdsNotRising(index),
             _ => return None,
         })
     }
@@ -190,6 +193,9 @@ impl fmt::Display for Error {
             Error::AlreadyHeld => write!(f, "the pad already holds a bar of this id"),
             Error::PadFull => write!(f, "the pad has no room for the bar"),
             Error::BrokenPad => write!(f, "the words are no pad"),
+            Error::IdsNotRising(index) => {
+                write!(f, "the id at index {index} is not above the one before it")
+            }
         }
     }
 }
@@ -240,6 +246,7 @@ mod tests {
             ((18, 0, 0), Error::AlreadyHeld),
             ((19, 0, 0), Error::PadFull),
             ((20, 0, 0), Error::BrokenPad),
+            ((21, 0, 16_777_215), Error::IdsNotRising(16_777_215)),
         ];
         for ((kind, which, index), error) in cases {
             assert_eq!(Error::of_numbers(kind, which, index), Some(error));
@@ -250,7 +257,7 @@ mod tests {
     fn other_numbers_have_none() {
         for (kind, which, index) in [
             (0, 0, 0),
-            (21, 0, 0),
+            (22, 0, 0),
             (1, 0, 0),
             (5, 7, 0),
             (6, 0, 0),

@@ -30,13 +30,15 @@
 //! - A question has at most 128 terms, and each list at most 16,777,216 elements; otherwise [`Error::TooLarge`].
 //! - Files and the hash-map index are left out. [`midi_bars`], which reads bars from a MIDI file,
 //!   [`RawPositionalSegment::bar_sheet`], which puts a bar on paper, [`RawPositionalSegment::phrase_match_ranked`], which lists the
-//!   best bars first, and [`Pad`], which holds bars before they are written, are added.
+//!   best bars first, [`length_of`], which looks a length up in lists of the caller's own, and [`Pad`], which holds bars before they are
+//!   written, are added.
 #![deny(missing_docs)]
 #![deny(unsafe_code)]
 
 mod checked;
 mod error;
 mod flat;
+mod lookup;
 mod midi;
 mod pad;
 mod room;
@@ -48,6 +50,7 @@ mod writer;
 
 pub use checked::{CheckedSegment, OpenedSegment};
 pub use error::Error;
+pub use lookup::length_of;
 pub use midi::{midi_bars, MidiBars};
 pub use pad::{Bar, Hit, Pad};
 pub use segment::RawPositionalSegment;

@@ -5,6 +5,7 @@
 //! behind a `&mut` while the call runs. The library keeps no pointer, and no contents are forbidden.
 
 pub(crate) mod handle;
+mod lookup;
 mod midi;
 mod pad;
 mod ranked;
@@ -13,6 +14,7 @@ mod sheet;
 use crate::flat::{Lists, Names};
 use crate::Error;
 
+pub(crate) use lookup::length_of;
 pub(crate) use midi::midi_bars;
 pub(crate) use pad::{pad_erase, pad_hits, pad_read, pad_save, pad_write};
 pub(crate) use ranked::phrase_match_ranked;
