@@ -9,11 +9,12 @@
 //!   bench sheet                        a bar on paper
 //!   bench ranked [--quick]             the best bars first
 //!   bench pad                          a pad to record on
+//!   bench lookup [--quick]             the length lookup for the menu
 //!   bench checksum                     bytes a second
 //!   bench stack                        the stack of every call
 //! Read in this order: data, calls, library, drawn, counted, originals, measure, compare, checksum, limits, plain, midi, sheet, stack,
 //! report, text; then words, handles, fts5, often, growth, report_often; then ranked, orders, report_ranked; then plain_pad, pad,
-//! report_pad.
+//! report_pad; then lookup, report_lookup.
 mod again;
 mod calls;
 mod checksum;
@@ -30,6 +31,7 @@ mod growth;
 mod handles;
 mod library;
 mod limits;
+mod lookup;
 mod measure;
 mod midi;
 mod often;
@@ -40,6 +42,7 @@ mod plain;
 mod plain_pad;
 mod ranked;
 mod report;
+mod report_lookup;
 mod report_often;
 mod report_pad;
 mod report_ranked;
@@ -80,13 +83,15 @@ fn depths() -> Vec<(String, Vec<usize>)> {
     let check = stack::depth(&mut || {
         black_box(handles::check(&bytes));
     });
+    let looked_up = lookup::depth(&lists.ids, &lists.lengths);
     let (_, file) = midi::files(1 << 16).remove(2);
     let mut lists = midi::enough(file.len());
     let imported = stack::depth(&mut || {
         black_box(library::midi_bars(&file, &mut lists));
     });
     let others = [("open_once", once), ("check", check), ("write", written), ("midi_bars", imported)];
-    all.extend(others.into_iter().chain(pad::depths()).map(|(name, depth)| (name.to_string(), vec![depth])));
+    let others = others.into_iter().chain(pad::depths()).chain([("length_of", looked_up)]);
+    all.extend(others.map(|(name, depth)| (name.to_string(), vec![depth])));
     all
 }
 
@@ -130,6 +135,7 @@ fn main() {
             return report_ranked::section(&ranked::all(&ranked::sizes(quick)), &orders::all(&orders::sizes(quick)));
         }
         [only] if only == "pad" => return report_pad::section(&pad::all(15)),
+        [only, how @ ..] if only == "lookup" => return report_lookup::section(&lookup::all(!how.is_empty())),
         [only, how @ ..] if only == "often" => {
             let sizes = often::all(!how.is_empty());
             return report_often::section(&sizes, &growth::all(&sizes, !how.is_empty()));
@@ -159,6 +165,8 @@ fn main() {
     let orders = orders::all(&orders::sizes(quick));
 
     let pads = pad::all(if quick { 5 } else { 15 });
+
+    let lookups = lookup::all(quick);
 
     let checksums = checksum::all(&[4096, if quick { 1 << 20 } else { 1 << 24 }], if quick { 5 } else { 15 });
 
@@ -194,6 +202,8 @@ fn main() {
     report_ranked::section(&ranked, &orders);
     println!("\n## A pad to record on\n");
     report_pad::section(&pads);
+    println!("\n## Length lookup for the menu\n");
+    report_lookup::section(&lookups);
     println!("\n## Stack and code\n\n{}", text::STACK);
     report::stack(&depths());
     println!("\nThe library's machine code has {} bytes, its constants {}.", report::grouped(code), report::grouped(constants));

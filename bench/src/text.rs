@@ -171,6 +171,18 @@ pub const PAD_AIM: &str = "\
 A save or a reading back of a full pad in well under a millisecond:
 ";
 
+pub const LOOKUP: &str = "\
+`length_of` has no original: the Rust looks lengths up in its own segments. Beside it runs plain Rust that answers and refuses the same
+(`bench/src/lookup.rs`): `windows(2).position(..)` for the first id that is not above the one before it, then `binary_search`. Ids rise by 1
+to 3; those asked for are drawn at random, and about half of them are there. The answers were compared first. The call reads the whole list
+before it looks for the id, whatever id is asked, so it is linear in the ids; the search alone, `binary_search` over ids that it trusts,
+shows what the test costs. The last column is the loop around each, with nothing called; nanoseconds an id are without it.
+";
+
+pub const LOOKUP_AIM: &str = "\
+Linear in the number of ids: from one number to sixteen times as many, the nanoseconds an id at most double. The largest factor of all:
+";
+
 pub const STACK: &str = "\
 The library allocates nothing. What a call touches of the stack, measured on a painted one, over 1,000 documents, over a MIDI file of
 65,536 bytes with hits of all notes, and over a full pad; in the last two columns with a handle. Bytes:

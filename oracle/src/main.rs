@@ -9,8 +9,8 @@
 //!   bars, worked, corners, patterns, strings, large    document 01's cases, whole small spaces, limits
 //!   show, shrink, reshape, sample                      a case as text, made smaller, and as a record of the replay list
 //!   handle                   a segment checked once and asked often: every call above with handles, and any handle with any bytes
-//!   midi, sheet, ranked, pad bars from MIDI files, a bar on paper, the best bars first and a pad to record on, which the Rust does not
-//!                            have, beside models from document 02's words
+//!   midi, sheet, ranked, pad, lookup   bars from MIDI files, a bar on paper, the best bars first, a pad to record on and the length
+//!                            lookup for the menu, which the Rust does not have, beside models from document 02's words
 
 mod bars;
 mod case;
@@ -22,6 +22,7 @@ mod handle;
 mod large;
 mod lent;
 mod library;
+mod lookup;
 mod make;
 mod midi;
 mod numbers;
@@ -49,6 +50,7 @@ mod worked;
 
 use compare::{found, opened, Runner};
 use handle::Any;
+use lookup::Lookups;
 use midi::Midi;
 use options::{options, Options};
 use pad::Pads;
@@ -133,7 +135,14 @@ fn conclude(runner: &mut Runner) {
 
 fn compared(options: &Options) -> std::io::Result<ExitCode> {
     let mut runner = Runner::new(options.sample.is_some().then(Sample::new), options.seed);
-    let only = [options.only_midi, options.only_sheets, options.only_ranked, options.only_pads, options.only_handles];
+    let only = [
+        options.only_midi,
+        options.only_sheets,
+        options.only_ranked,
+        options.only_pads,
+        options.only_lookups,
+        options.only_handles,
+    ];
     let all = !only.contains(&true);
     if all {
         beside_the_rust(&mut runner, options);
@@ -154,6 +163,10 @@ fn compared(options: &Options) -> std::io::Result<ExitCode> {
     let mut pads = Pads::new();
     if all || options.only_pads {
         pad::all(&mut pads, &mut runner, options.seed, options.pads, options.whole);
+    }
+    let mut lookups = Lookups::new();
+    if all || options.only_lookups {
+        lookup::all(&mut lookups, options.seed, options.lookups, options.whole);
     }
     let mut any = Any::new();
     if all || options.only_handles {
@@ -180,14 +193,19 @@ fn compared(options: &Options) -> std::io::Result<ExitCode> {
     if all || options.only_ranked {
         runner.ranked.tally.print();
     }
-    let missed = if all || options.only_pads { pads.tally.print() } else { 0 };
+    let mut missed = if all || options.only_pads { pads.tally.print() } else { 0 };
+    if all || options.only_lookups {
+        missed += lookups.tally.print();
+    }
     conclude(&mut runner);
     midi::conclude(&mut midi);
     sheet::conclude(&mut runner.sheets);
     ranked::conclude(&mut runner.ranked);
     pad::conclude(&mut pads);
+    lookup::conclude(&mut lookups);
     handle::conclude(&mut any);
-    let beyond = midi.differences + runner.sheets.differences + runner.ranked.differences + pads.differences + any.differences;
+    let beside_models = midi.differences + runner.sheets.differences + runner.ranked.differences;
+    let beyond = beside_models + pads.differences + lookups.differences + any.differences;
     Ok(if runner.differences + beyond == 0 && missed == 0 { ExitCode::SUCCESS } else { ExitCode::FAILURE })
 }
 
@@ -217,6 +235,9 @@ fn main() -> ExitCode {
     }
     if let Some(line) = &options.pad_case {
         return pad::one_case(line);
+    }
+    if let Some(line) = &options.lookup_case {
+        return lookup::one_case(line);
     }
     if let Some(line) = &options.handle_case {
         return handle::one_case(line);

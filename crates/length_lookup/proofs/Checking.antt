@@ -7,6 +7,7 @@ use mathlib.Core.Option.{none, some}
 use mathlib.Core.Logic.{_⊎_, ⊎-elim, inl, inr}
 use Prim.Native.Nat.{ℕ, _+_, _≤_, _<_}
 use native.Mathlib.Numerals.{add-one}
+use native.Mathlib.Omega.{arith}
 use lib.Dec.{leb, eqb}
 use lib.ListN.{length, drop, getD}
 use borrow.Author.Tests.{lt-ltb, le-ltb, le-leb, lt-leb, leb-true, leb-false, eq-eqb, ne-eqb, eqb-true}
@@ -26,16 +27,20 @@ use Rattle.length_lookup.proofs.Places.{ids-give, ids-from, place-gives
 
 -- ---- the ids, from the second on
 
+pub ids-none : (ids : List ℕ) → length ids ≡ 0 → Passed ≡ checked (check-ids 0 none ids)
+unfolding check-ids
+ids-none [] e = refl
+ids-none (x ∷ xs) e = absurd (omega arith)
+
 pub ids-start : (ids : List ℕ) → checked (check-ids 1 (some (getD ids 0 0)) (drop 1 ids)) ≡ checked (check-ids 0 none ids)
 unfolding check-ids
 ids-start [] = refl
 ids-start (x ∷ xs) = refl
 
 module _ (ids : List ℕ) (i previous : ℕ) {whole : Checked} (inv : checked (check-ids i (some previous) (drop i ids)) ≡ whole) where
-  pub ids-next : (j : ℕ) → j ≡ i → i < length ids → previous < getD ids i 0
-      → checked (check-ids (i + 1) (some (getD ids j 0)) (drop (i + 1) ids)) ≡ whole
+  pub ids-next : i < length ids → previous < getD ids i 0 → checked (check-ids (i + 1) (some (getD ids i 0)) (drop (i + 1) ids)) ≡ whole
   unfolding check-ids
-  ids-next j q h k = rw (q, add-one i) (rw (drop-step ids i 0 h, lt-ltb previous (getD ids i 0) k, add-one i) at inv)
+  ids-next h k = rw (add-one i) (rw (drop-step ids i 0 h, lt-ltb previous (getD ids i 0) k, add-one i) at inv)
 
   pub ids-stop : i < length ids → getD ids i 0 ≤ previous → Refused (ids-not-rising i) ≡ whole
   unfolding check-ids

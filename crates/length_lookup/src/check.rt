@@ -10,15 +10,21 @@ ghost use Rattle.common.specs.Slices.{was};
 ghost use Rattle.segment.specs.Steps.{checked};
 ghost use Rattle.length_lookup.specs.Lookup.{check-ids, check-ids-and-lengths};
 
-// Every id is above the one before it.
+// Every id is above the one before it, which is kept at hand: each is loaded once.
 fn check_rising(ids: &[u32]) -> Checked
     ensures { λ r. ⌜ r ≡ checked (check-ids 0 none (was ids)) ⌝ }
 {
+    if ids.len() == 0 {
+        return Checked::Passed;
+    }
+    let mut before = ids[0];
     let mut i: usize = 1;
     while i < ids.len() {
-        if ids[i] <= ids[i - 1] {
+        let here = ids[i];
+        if here <= before {
             return Checked::Refused(ids_not_rising(i));
         }
+        before = here;
         i += 1;
     }
     Checked::Passed
