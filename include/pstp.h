@@ -413,8 +413,8 @@ pstp_reply pstp_midi_bars(const uint8_t *file, size_t file_len, uint32_t *ids, s
  * directory, whether or not the bar has the sound; 13/1 out. */
 pstp_reply pstp_bar_sheet(const uint8_t *segment, size_t segment_len, uint32_t id, uint8_t *out, size_t out_len);
 
-/* One document's length, looked up in lists of the caller's own; no segment is needed. In the lists that pstp_document_lengths fills, as
- * long as their answer and at most PSTP_LIMIT, it finds what pstp_document_len finds in the segment.
+/* One document's length, looked up in lists of the caller's own; no segment is needed. In the first n elements of the lists that
+ * pstp_document_lengths fills, n being its answer and at most PSTP_LIMIT, it finds what pstp_document_len finds in the segment.
  * first: 1 and second: the length beside the id; both 0 exactly if the list does not have the id. A length of 0 beside the id is 1 and 0.
  *
  *  ids, lengths  the documents, side by side: lengths[i] is that of ids[i], by strictly increasing id

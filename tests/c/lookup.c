@@ -1,5 +1,5 @@
 /* A length looked up in the caller's own lists: the worked examples, every short list beside a plain model, long lists, the limit, and the
- * lists of a segment. Nothing outside the two lists is read, and nothing in them is changed. */
+ * lists of a segment. Nothing outside lists of up to 5,000 ids is read, and nothing in them is changed. */
 #include "build.h"
 #include "check.h"
 #include "guarded.h"
@@ -177,7 +177,7 @@ static void test_every_id(void) {
     }
 }
 
-/* 21 at this place, whatever id is asked for: on both sides of the place, at both ends, and ids that are not there. */
+/* 21 at this place, whatever id is asked for: on both sides of the place, at both ends, and ids that are mostly not there. */
 static void expect_not_rising(const char *note, struct lists l, size_t place) {
     size_t last = l.ids_len - 1, next = place < last ? place + 1 : place;
     const uint32_t any[] = {ids[place - 1], ids[place], ids[next], ids[0], ids[last], 0, 2, MOST};
@@ -228,7 +228,7 @@ static void test_longest(uint32_t *many, uint32_t *beside) {
     }
 }
 
-/* 12 of either list, before 11, before 21. The ids fall at place 1: that is how the test above leaves them. */
+/* 12 of either list, before 11, before 21. The ids do not rise at place 1: that is how the test above leaves them. */
 static void test_limit(const uint32_t *many, const uint32_t *beside) {
     static const size_t sizes[] = {0, 1, 2, LIMIT - 1, LIMIT, OVER};
     enum { SIZES = sizeof sizes / sizeof sizes[0] };

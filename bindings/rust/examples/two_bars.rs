@@ -1,4 +1,4 @@
-//! Writes two bars of two sounds as a segment, lists it, and asks which bars have them near one another.
+//! Writes two bars of two sounds as a segment, lists it, looks lengths up in its lists, and asks which bars have them near one another.
 
 use pstp::{
     length_of, write_positional_segment, Error, PositionalPosting, PositionalTermPostings,

@@ -38,7 +38,7 @@ abbrev pub opened : Result Segment → Opened
 opened (ok s) = answer.Counts (record { documents = length (s .documents); terms = length (s .entries) })
 opened (refuse x) = answer.Refused x
 
--- `document_len`: the length, or that the document is unknown
+-- `document_len`, `length_of`: the length, or that the document is unknown
 abbrev pub length-answer : Result (Option ℕ) → Length
 length-answer (ok none) = len.Absent
 length-answer (ok (some n)) = len.Known n

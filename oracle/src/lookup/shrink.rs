@@ -1,5 +1,6 @@
 //! A case as text, tried, and made smaller for as long as it differs.
 
+use super::call::report_faults;
 use super::compare::Lookups;
 use super::model::{answer, reply, Lists};
 use crate::show::{join, numbers};
@@ -59,6 +60,7 @@ pub fn one_case(line: &str) -> ExitCode {
         eprintln!("not a lookup: {line}");
         return ExitCode::from(2);
     };
+    report_faults();
     let told = answer(&kept.lists, kept.id);
     println!("the model: {told:?}");
     println!("as a reply: {:?}", reply(&told));

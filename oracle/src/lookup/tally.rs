@@ -70,6 +70,9 @@ impl Tally {
                 missing.push(said.to_string());
             }
         }
+        if self.known == 0 {
+            missing.push("lists of which the maker knows the answer".to_string());
+        }
         if self.of_segments == 0 {
             missing.push("lists of a segment".to_string());
         }

@@ -41,7 +41,8 @@ returns-2 : tie.Need-returns-2 Inv-loop μ-loop
 returns-2 c =
     let t = c .before .before .before in
     let ids = now (t .before .before .before .before .before .args .ids) in
-    rw (c .ids-not-rising .ensures) (ids-stop ids (t .before .loop .i) _ (t .before .loop .inv) (t .loop-test .taken) (c .before .if2 .taken))
+    rw (c .ids-not-rising .ensures)
+    (ids-stop ids (t .before .loop .i) _ (t .before .loop .inv) (t .loop-test .taken) (c .before .if2 .taken))
 
 add-i : tie.Need-add-i Inv-loop μ-loop
 add-i c = search needs
