@@ -104,6 +104,10 @@ pad-full = refusal 19 0 0
 abbrev pub broken-pad : Refusal
 broken-pad = refusal 20 0 0
 
+-- a velocity outside 1 to 127
+abbrev pub velocity-range : Refusal
+velocity-range = refusal 22 0 0
+
 -- ---- kinds of a caller's own lists (document 02)
 
 -- the id on this place, counted from 0, is the first that is not above the one before it

@@ -5,7 +5,7 @@ ghost use mathlib.Core.Path.{_≡_};
 ghost use Rattle.segment.specs.Refusals.{truncated, invalid-magic, unsupported-version, unsupported-flags, checksum-mismatch};
 ghost use Rattle.segment.specs.Refusals.{invalid-layout, invalid-varint, doc-id-overflow, position-overflow, invalid-utf8};
 ghost use Rattle.segment.specs.Refusals.{list-shape, too-large, no-room, midi-file, bar-too-far};
-ghost use Rattle.segment.specs.Refusals.{unknown-bar, bar-too-long, already-held, pad-full, broken-pad, ids-not-rising};
+ghost use Rattle.segment.specs.Refusals.{unknown-bar, bar-too-long, already-held, pad-full, broken-pad, ids-not-rising, velocity-range};
 
 pub struct Refusal {
     pub kind: u32,
@@ -55,6 +55,8 @@ pub const PAD_FULL: u32 = 19;
 pub const BROKEN_PAD: u32 = 20;
 
 pub const IDS_NOT_RISING: u32 = 21;
+
+pub const VELOCITY_RANGE: u32 = 22;
 
 // Sections.
 pub const HEADER: u32 = 1;
@@ -344,5 +346,16 @@ pub fn ids_not_rising(place: usize) -> Refusal
         kind: IDS_NOT_RISING,
         which: 0,
         index: place as u64,
+    }
+}
+
+// Kind 22: a velocity outside 1 to 127.
+pub fn velocity_range() -> Refusal
+    ensures { λ r. ⌜ r ≡ velocity-range ⌝ }
+{
+    Refusal {
+        kind: VELOCITY_RANGE,
+        which: 0,
+        index: 0,
     }
 }
