@@ -4,3 +4,5 @@ pub mod Mapped
 pub mod Ordered
 pub mod Saved
 pub mod Room
+pub mod Outside
+pub mod Alike

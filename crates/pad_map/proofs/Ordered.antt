@@ -12,13 +12,14 @@ use Rattle.common.specs.Elements.{_∈_}
 use Rattle.common.proofs.Elements.{each}
 use Rattle.common.proofs.Loops.{and-left, and-right}
 use Rattle.common.proofs.Membership.{or-cases, or-right}
-use Rattle.pad_map.specs.Bars.{Hit}
-use Rattle.pad_map.specs.Rules.{Comes-before, Hits-rising, Hits-fine, before, comes-after, hit-fine, hits-fine}
+use Rattle.pad_map.specs.Bars.{Hit, Key, key-of, with-velocity}
+use Rattle.pad_map.specs.Rules.{Comes-before, Hits-rising, Velocity-fits, Hits-fine}
+use Rattle.pad_map.specs.Rules.{before, comes-after, velocity-fits, hit-fine, hits-fine}
 use Rattle.pad_map.specs.Claims.{Order-exactly, Fine-exactly}
 
 -- ---- the order of two hits
 
-order-gives : (a b : Hit) → before a b ≡ true → Comes-before a b
+order-gives : (a b : Hit) → before (key-of a) (key-of b) ≡ true → Comes-before a b
 unfolding before
 order-gives a b t =
     let lower = ltb (a .sound) (b .sound) in
@@ -29,7 +30,7 @@ order-gives a b t =
     (λ t. inr (eqb-true (a .sound) (b .sound) (and-left same earlier t), ltb-true (a .step) (b .step) (and-right same earlier t)))
     (or-cases lower (same && earlier) t)
 
-order-from : (a b : Hit) → Comes-before a b → before a b ≡ true
+order-from : (a b : Hit) → Comes-before a b → before (key-of a) (key-of b) ≡ true
 unfolding before
 order-from a b (inl h) = rw (lt-ltb (a .sound) (b .sound) h)
 order-from a b (inr h) =
@@ -38,65 +39,92 @@ order-from a b (inr h) =
 pub order-exactly : Order-exactly
 order-exactly a b = (order-gives a b, order-from a b)
 
--- ---- hits that rise after what stood before them
+-- ---- hits that rise after what stood before them, whose velocity does not matter
 
-abbrev pub Hits-after : Option Hit → List Hit → Type 0
+abbrev pub Hits-after : Option Key → List Hit → Type 0
 Hits-after none hs = Hits-rising hs
-Hits-after (some p) hs = Hits-rising (p ∷ hs)
+Hits-after (some k) hs = Hits-rising (with-velocity k 0 ∷ hs)
 
-after-none : (previous : Option Hit) → Hits-after previous []
+after-none : (previous : Option Key) → Hits-after previous []
 after-none none = tt
-after-none (some p) = tt
+after-none (some k) = tt
 
-after-cons : (previous : Option Hit) (h : Hit) (hs : List Hit) → comes-after previous h ≡ true → Hits-after (some h) hs
+headed : (h : Hit) (hs : List Hit) → Hits-after (some (key-of h)) hs → Hits-rising (h ∷ hs)
+headed h [] r = tt
+headed h (k ∷ ks) r = r
+
+behind : (h : Hit) (hs : List Hit) → Hits-rising (h ∷ hs) → Hits-after (some (key-of h)) hs
+behind h [] r = tt
+behind h (k ∷ ks) r = r
+
+after-cons : (previous : Option Key) (h : Hit) (hs : List Hit) → comes-after previous (key-of h) ≡ true → Hits-after (some (key-of h)) hs
     → Hits-after previous (h ∷ hs)
-after-cons none h hs t r = r
-after-cons (some p) h hs t r = (order-gives p h t, r)
+after-cons none h hs t r = headed h hs r
+after-cons (some k) h hs t r = (order-gives (with-velocity k 0) h t, headed h hs r)
 
-after-head : (previous : Option Hit) (h : Hit) (hs : List Hit) → Hits-after previous (h ∷ hs) → comes-after previous h ≡ true
+after-head : (previous : Option Key) (h : Hit) (hs : List Hit) → Hits-after previous (h ∷ hs) → comes-after previous (key-of h) ≡ true
 after-head none h hs r = refl
-after-head (some p) h hs r = order-from p h (r .0)
+after-head (some k) h hs r = order-from (with-velocity k 0) h (r .0)
 
-after-tail : (previous : Option Hit) (h : Hit) (hs : List Hit) → Hits-after previous (h ∷ hs) → Hits-after (some h) hs
-after-tail none h hs r = r
-after-tail (some p) h hs r = r .1
+after-tail : (previous : Option Key) (h : Hit) (hs : List Hit) → Hits-after previous (h ∷ hs) → Hits-after (some (key-of h)) hs
+after-tail none h hs r = behind h hs r
+after-tail (some k) h hs r = behind h hs (r .1)
+
+-- ---- a velocity
+
+pub fits-gives : (v : ℕ) → velocity-fits v ≡ true → Velocity-fits v
+fits-gives v t = (leb-true 1 v (and-left (leb 1 v) (leb v 127) t), leb-true v 127 (and-right (leb 1 v) (leb v 127) t))
+
+pub fits-from : (v : ℕ) → Velocity-fits v → velocity-fits v ≡ true
+fits-from v (some-loud, low) = rw (le-leb 1 v some-loud, le-leb v 127 low)
 
 -- ---- a bar's hits
 
 -- within the rules behind a hit before them
-pub record Fine-after (len : ℕ) (previous : Option Hit) (hits : List Hit) : Type 0 where
+pub record Fine-after (len : ℕ) (previous : Option Key) (hits : List Hit) : Type 0 where
   pub sounds : (h : Hit) → h ∈ hits → h .sound ≤ 127
+  pub velocities : (h : Hit) → h ∈ hits → Velocity-fits (h .velocity)
   pub rising : Hits-after previous hits
   pub steps : (h : Hit) → h ∈ hits → h .step < len
 
 module _ (len : ℕ) where
-  pub fine-gives : (previous : Option Hit) (hits : List Hit) → hits-fine len previous hits ≡ true → Fine-after len previous hits
+  pub fine-gives : (previous : Option Key) (hits : List Hit) → hits-fine len previous hits ≡ true → Fine-after len previous hits
   unfolding hits-fine hit-fine
-  fine-gives previous [] t = record { sounds = λ h m. absurd m; rising = after-none previous; steps = λ h m. absurd m }
+  fine-gives previous [] t =
+      record { sounds = λ h m. absurd m; velocities = λ h m. absurd m; rising = after-none previous; steps = λ h m. absurd m }
   fine-gives previous (h ∷ hs) t =
-      let here = and-left (hit-fine len previous h) (hits-fine len (some h) hs) t in
-      let later = fine-gives (some h) hs (and-right (hit-fine len previous h) (hits-fine len (some h) hs) t) in
+      let k = key-of h in
+      let here = and-left (hit-fine len previous h) (hits-fine len (some k) hs) t in
+      let later = fine-gives (some k) hs (and-right (hit-fine len previous h) (hits-fine len (some k) hs) t) in
       let low = leb-true (h .sound) 127 (and-left (leb (h .sound) 127) _ here) in
-      let others = and-right (leb (h .sound) 127) (comes-after previous h && ltb (h .step) len) here in
+      let audible = and-right (leb (h .sound) 127) (velocity-fits (h .velocity) && (comes-after previous k && ltb (h .step) len)) here in
+      let others = and-right (velocity-fits (h .velocity)) (comes-after previous k && ltb (h .step) len) audible in
       record {
         sounds = each (λ (k : Hit). k .sound ≤ 127) h hs low (later .sounds);
-        rising = after-cons previous h hs (and-left (comes-after previous h) (ltb (h .step) len) others) (later .rising);
+        velocities =
+            each (λ (k : Hit). Velocity-fits (k .velocity)) h hs
+            (fits-gives (h .velocity) (and-left (velocity-fits (h .velocity)) _ audible)) (later .velocities);
+        rising = after-cons previous h hs (and-left (comes-after previous k) (ltb (h .step) len) others) (later .rising);
         steps =
             each (λ (k : Hit). k .step < len) h hs
-            (ltb-true (h .step) len (and-right (comes-after previous h) (ltb (h .step) len) others)) (later .steps);
+            (ltb-true (h .step) len (and-right (comes-after previous k) (ltb (h .step) len) others)) (later .steps);
       }
 
-  pub fine-from : (previous : Option Hit) (hits : List Hit) → Fine-after len previous hits → hits-fine len previous hits ≡ true
+  pub fine-from : (previous : Option Key) (hits : List Hit) → Fine-after len previous hits → hits-fine len previous hits ≡ true
   unfolding hits-fine hit-fine
   fine-from previous [] f = refl
   fine-from previous (h ∷ hs) f =
-      let later = fine-from (some h) hs (record {
+      let later = fine-from (some (key-of h)) hs (record {
         sounds = λ k m. f .sounds k (inr m);
+        velocities = λ k m. f .velocities k (inr m);
         rising = after-tail previous h hs (f .rising);
         steps = λ k m. f .steps k (inr m);
       }) in
+      let (some-loud, not-above) = f .velocities h (inl refl) in
       rw (
         le-leb (h .sound) 127 (f .sounds h (inl refl)),
+        le-leb 1 (h .velocity) some-loud,
+        le-leb (h .velocity) 127 not-above,
         after-head previous h hs (f .rising),
         lt-ltb (h .step) len (f .steps h (inl refl)),
       )
@@ -104,6 +132,8 @@ module _ (len : ℕ) where
 
 pub fine-exactly : Fine-exactly
 fine-exactly len hits = (
-  λ t. let f = fine-gives len none hits t in record { sounds = f .sounds; rising = f .rising; steps = f .steps },
-  λ f. fine-from len none hits (record { sounds = f .sounds; rising = f .rising; steps = f .steps }),
+  λ t.
+      let f = fine-gives len none hits t in
+      record { sounds = f .sounds; velocities = f .velocities; rising = f .rising; steps = f .steps },
+  λ f. fine-from len none hits (record { sounds = f .sounds; velocities = f .velocities; rising = f .rising; steps = f .steps }),
 )

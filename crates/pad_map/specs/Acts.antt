@@ -23,12 +23,12 @@ is-some none = false
 is-some (some a) = true
 
 -- the map afterwards: 18; the lists; 19, which goes by the numbers of bars and hits held and by nothing else
-unfoldable pub save : (bars : List Bar) (id len : ℕ) (sounds steps : List ℕ) → Result (List Bar)
-save bars id len ss ts = do
+unfoldable pub save : (bars : List Bar) (id len : ℕ) (sounds steps velocities : List ℕ) → Result (List Bar)
+save bars id len ss ts vs = do
   _ ← check (not (is-some (lookup bars id))) already-held
-  _ ← check-hits len ss ts
+  _ ← check-hits len ss ts vs
   _ ← check (ltb (length bars) 256 && leb (hits-in-all bars + length ss) 8192) pad-full
-  ok (insert (bar id len (hits-in ss ts)) bars)
+  ok (insert (bar id len (hits-in ss ts vs)) bars)
 
 -- the bar under an id, or 16
 abbrev pub found : Option Bar → Result Bar
@@ -39,13 +39,14 @@ found (some b) = ok b
 abbrev pub erase : (bars : List Bar) (id : ℕ) → Result Bar
 erase bars id = found (lookup bars id)
 
--- ---- reading back: 16; 13 looks at sounds, then steps
+-- ---- reading back: 16; 13 looks at sounds, then steps, then velocities
 
-unfoldable pub read : (bars : List Bar) (id sounds-room steps-room : ℕ) → Result Bar
-read bars id sr tr = do
+unfoldable pub read : (bars : List Bar) (id sounds-room steps-room velocities-room : ℕ) → Result Bar
+read bars id sr tr vr = do
   b ← found (lookup bars id)
   _ ← roomy 1 (length (b .hits)) sr
   _ ← roomy 2 (length (b .hits)) tr
+  _ ← roomy 3 (length (b .hits)) vr
   ok b
 
 -- ---- writing out: what is handed to the writer

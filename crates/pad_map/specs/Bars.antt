@@ -7,13 +7,28 @@ use lib.Dec.{ltb, eqb}
 use lib.ListN.{length}
 use Rattle.common.specs.Lists.{paired}
 
--- A hit: a sound number and a step
+-- A hit: a sound number, a step and a velocity
 pub record Hit : Type 0 where
   pub sound : ℕ
   pub step : ℕ
+  pub velocity : ℕ
 
-abbrev pub hit : ℕ → ℕ → Hit
-hit s t = record { sound = s; step = t }
+abbrev pub hit : (sound step velocity : ℕ) → Hit
+hit s t v = record { sound = s; step = t; velocity = v }
+
+-- Where a hit stands in its bar, whatever its velocity: by sound, then step
+pub record Key : Type 0 where
+  pub sound : ℕ
+  pub step : ℕ
+
+abbrev pub key : (sound step : ℕ) → Key
+key s t = record { sound = s; step = t }
+
+abbrev pub key-of : Hit → Key
+key-of h = key (h .sound) (h .step)
+
+abbrev pub with-velocity : Key → (velocity : ℕ) → Hit
+with-velocity k v = hit (k .sound) (k .step) v
 
 -- A bar with its id: its length, its hits by sound, then step
 pub record Bar : Type 0 where
@@ -24,9 +39,9 @@ pub record Bar : Type 0 where
 abbrev pub bar : ℕ → ℕ → List Hit → Bar
 bar i l hs = record { id = i; len = l; hits = hs }
 
--- the hits of two lists side by side
-abbrev pub hits-in : (sounds steps : List ℕ) → List Hit
-hits-in sounds steps = paired hit sounds steps
+-- the hits of three lists side by side
+abbrev pub hits-in : (sounds steps velocities : List ℕ) → List Hit
+hits-in sounds steps velocities = paired with-velocity (paired key sounds steps) velocities
 
 -- ---- the map: bars by rising id, each id once
 
