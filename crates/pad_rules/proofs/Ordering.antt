@@ -7,10 +7,10 @@ use native.Mathlib.Omega.{arith}
 use lib.Dec.{ltb}
 use borrow.Author.Tests.{lt-ltb, le-ltb, eq-eqb, ne-eqb}
 use Rattle.segment.specs.Steps.{earlier}
-use Rattle.pad_map.specs.Bars.{Hit}
+use Rattle.pad_map.specs.Bars.{Key}
 use Rattle.pad_map.specs.Rules.{before, comes-after}
 
-module _ (a b : Hit) where
+module _ (a b : Key) where
   pub before-lower : a .sound < b .sound → true ≡ before a b
   unfolding before
   before-lower h = rw (lt-ltb (a .sound) (b .sound) h)
@@ -23,7 +23,7 @@ module _ (a b : Hit) where
   unfolding before
   before-same e = rw (le-ltb (a .sound) (b .sound) (omega arith), eq-eqb (a .sound) (b .sound) e)
 
-module _ (first : Bool) (a b : Hit) where
+module _ (first : Bool) (a b : Key) where
   pub after-first : first ≡ true → true ≡ comes-after (earlier first a) b
   after-first n = rw n
 

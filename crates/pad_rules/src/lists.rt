@@ -8,15 +8,21 @@ use segment::refusal::WRITTEN_POSITION_EXCEEDS_LENGTH;
 use segment::refusal::invalid_layout;
 use segment::refusal::list_shape;
 use segment::refusal::too_large;
+use segment::refusal::velocity_range;
 ghost use mathlib.Core.Path.{_≡_};
 ghost use mathlib.Core.Option.{none};
 ghost use lib.ListN.{length};
 ghost use Rattle.common.specs.Slices.{was};
 ghost use Rattle.segment.specs.Steps.{checked};
-ghost use Rattle.pad_map.specs.Rules.{all-up-to, hits-rise, all-below, check-hits};
+ghost use Rattle.pad_map.specs.Rules.{all-up-to, all-audible, hits-rise, all-below, check-hits};
 
 // The highest sound.
 pub const HIGHEST_SOUND: u8 = 127;
+
+// Velocities are 1 to 127.
+pub const LOWEST_VELOCITY: u8 = 1;
+
+pub const HIGHEST_VELOCITY: u8 = 127;
 
 // Whether every number is at most `high`.
 fn is_up_to(xs: &[u8], high: u8) -> bool
@@ -25,6 +31,23 @@ fn is_up_to(xs: &[u8], high: u8) -> bool
     let mut i: usize = 0;
     while i < xs.len() {
         if high < xs[i] {
+            return false;
+        }
+        i += 1;
+    }
+    true
+}
+
+// Whether every velocity is from 1 to 127.
+fn is_audible(velocities: &[u8]) -> bool
+    ensures { λ r. ⌜ r ≡ all-audible (was velocities) ⌝ }
+{
+    let mut i: usize = 0;
+    while i < velocities.len() {
+        if velocities[i] < LOWEST_VELOCITY {
+            return false;
+        }
+        if HIGHEST_VELOCITY < velocities[i] {
             return false;
         }
         i += 1;
@@ -67,9 +90,9 @@ fn is_below(steps: &[u32], len: u32) -> bool
     true
 }
 
-// Kinds 12, 11, 12 for a sound above 127, 6 for the order, 6 for a step that is not below the length.
-pub fn check_hits_of(len: u32, sounds: &[u8], steps: &[u32]) -> Checked
-    ensures { λ r. ⌜ r ≡ checked (check-hits len (was sounds) (was steps)) ⌝ }
+// Kinds 12, 11, 12 for a sound above 127, 22 for a velocity outside 1 to 127, 6 for the order, 6 for a step that is not below the length.
+pub fn check_hits_of(len: u32, sounds: &[u8], steps: &[u32], velocities: &[u8]) -> Checked
+    ensures { λ r. ⌜ r ≡ checked (check-hits len (was sounds) (was steps) (was velocities)) ⌝ }
 {
     if LIMIT < sounds.len() {
         return Checked::Refused(too_large());
@@ -77,11 +100,20 @@ pub fn check_hits_of(len: u32, sounds: &[u8], steps: &[u32]) -> Checked
     if LIMIT < steps.len() {
         return Checked::Refused(too_large());
     }
+    if LIMIT < velocities.len() {
+        return Checked::Refused(too_large());
+    }
     if sounds.len() != steps.len() {
+        return Checked::Refused(list_shape());
+    }
+    if sounds.len() != velocities.len() {
         return Checked::Refused(list_shape());
     }
     if !is_up_to(sounds, HIGHEST_SOUND) {
         return Checked::Refused(too_large());
+    }
+    if !is_audible(velocities) {
+        return Checked::Refused(velocity_range());
     }
     if !is_rising(sounds, steps) {
         return Checked::Refused(invalid_layout(POSITIONS_NOT_INCREASING));

@@ -11,7 +11,7 @@ use borrow.Author.Needs.{needs}
 use native.Mathlib.Omega.{arith}
 use Rattle.segment.specs.Steps.{earlier}
 use Rattle.segment.proofs.Accepted.{earlier-next}
-use Rattle.pad_map.specs.Bars.{hit}
+use Rattle.pad_map.specs.Bars.{key}
 use Rattle.pad_map.specs.Rules.{hits-rise}
 use Rattle.pad_rules.proofs.Listing.{rise-stop, rise-next, rise-end}
 use Rattle.pad_rules.proofs.lists.is_rising.Statement.{statement}
@@ -20,7 +20,7 @@ use Rattle.pad_rules.proofs.lists.is_rising.Tie as tie
 abbrev Inv-loop : tie.InvT-loop
 Inv-loop sounds steps sound-before₀ step-before₀ i₀ sound-before step-before i =
     (i ≤ length sounds)
-    × (hits-rise (earlier (eqb i 0) (hit sound-before step-before)) (drop i sounds) (drop i steps) ≡ hits-rise none sounds steps)
+    × (hits-rise (earlier (eqb i 0) (key sound-before step-before)) (drop i sounds) (drop i steps) ≡ hits-rise none sounds steps)
 
 abbrev μ-loop : tie.MeasureT-loop
 μ-loop sounds steps sound-before₀ step-before₀ i₀ sound-before step-before i = length sounds - i
