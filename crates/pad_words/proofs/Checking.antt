@@ -4,34 +4,44 @@ use mathlib.Core.Path.{_≡_, sym, _∙_}
 use mathlib.Core.Bool.{Bool, true, false}
 use mathlib.Core.List.{List}
 use mathlib.Core.Option.{Option, none, some}
-use Prim.Native.Nat.{ℕ, _+_, _-_, _*_, _≤_, _<_}
+use Prim.Native.Nat.{ℕ, _+_, _-_, _*_, _%_, _≤_, _<_}
 use native.Mathlib.Omega.{arith}
 use lib.Dec.{eqb, ltb}
 use lib.ListN.{length, drop, getD}
 use borrow.Author.Tests.{le-leb, lt-leb, eq-eqb, ne-eqb}
 use Rattle.segment.specs.Records.{rises}
 use Rattle.segment.specs.Steps.{earlier}
-use Rattle.pad_map.specs.Bars.{Hit, hit}
+use Rattle.pad_map.specs.Bars.{Hit, Key, key, key-of}
 use Rattle.pad_map.specs.Rules.{comes-after, hit-fine, hits-fine}
-use Rattle.pad_words.specs.Words.{pad-words, hits-of, bars-of, held}
+use Rattle.pad_words.specs.Words.{pad-words, hit-at, hits-of, bars-of, held}
 use Rattle.pad_words.specs.Whole.{bars-fine, whole}
 use Rattle.pad_words.proofs.Steps.{hits-many, hits-step, hits-end, bars-step, bars-end}
 
 -- ---- a hit
 
-module _ (len : ℕ) (previous : Option Hit) (h : Hit) where
+module _ (len : ℕ) (previous : Option Key) (h : Hit) where
   pub hit-sound : 127 < h .sound → false ≡ hit-fine len previous h
   unfolding hit-fine
   hit-sound x = rw (lt-leb (h .sound) 127 x)
 
   module _ (s : h .sound ≤ 127) where
-    pub hit-early : comes-after previous h ≡ false → false ≡ hit-fine len previous h
+    pub hit-silent : h .velocity < 1 → false ≡ hit-fine len previous h
     unfolding hit-fine
-    hit-early e = rw (le-leb (h .sound) 127 s, e)
+    hit-silent x = rw (le-leb (h .sound) 127 s, lt-leb 1 (h .velocity) x)
 
-    pub hit-step : comes-after previous h ≡ true → ltb (h .step) len ≡ hit-fine len previous h
-    unfolding hit-fine
-    hit-step e = rw (le-leb (h .sound) 127 s, e)
+    module _ (v : 1 ≤ h .velocity) where
+      pub hit-loud : 127 < h .velocity → false ≡ hit-fine len previous h
+      unfolding hit-fine
+      hit-loud x = rw (le-leb (h .sound) 127 s, le-leb 1 (h .velocity) v, lt-leb (h .velocity) 127 x)
+
+      module _ (w : h .velocity ≤ 127) where
+        pub hit-early : comes-after previous (key-of h) ≡ false → false ≡ hit-fine len previous h
+        unfolding hit-fine
+        hit-early e = rw (le-leb (h .sound) 127 s, le-leb 1 (h .velocity) v, le-leb (h .velocity) 127 w, e)
+
+        pub hit-step : comes-after previous (key-of h) ≡ true → ltb (h .step) len ≡ hit-fine len previous h
+        unfolding hit-fine
+        hit-step e = rw (le-leb (h .sound) 127 s, le-leb 1 (h .velocity) v, le-leb (h .velocity) 127 w, e)
 
 -- ---- an id, with the one before it
 
@@ -44,14 +54,14 @@ module _ (first : Bool) (a b : ℕ) where
 
 -- ---- the hits from an offset on
 
-module _ (len : ℕ) (previous : Option Hit) (ws : List ℕ) (at count i : ℕ) {all : Bool}
+module _ (len : ℕ) (previous : Option Key) (ws : List ℕ) (at count i : ℕ) {all : Bool}
     (inv : hits-fine len previous (hits-of (count - i) (drop at ws)) ≡ all) where
-  pub hits-next : i < count → true ≡ hit-fine len previous (hit (getD ws at 0) (getD ws (at + 1) 0))
-      → hits-fine len (some (hit (getD ws at 0) (getD ws (at + 1) 0))) (hits-of (count - (i + 1)) (drop (at + 2) ws)) ≡ all
+  pub hits-next : i < count → true ≡ hit-fine len previous (hit-at (getD ws at 0) (getD ws (at + 1) 0))
+      → hits-fine len (some (key (getD ws at 0 % 256) (getD ws (at + 1) 0))) (hits-of (count - (i + 1)) (drop (at + 2) ws)) ≡ all
   unfolding hits-fine
   hits-next h e = rw (hits-step ws at count i h, ← e) at inv
 
-  pub hits-stop : i < count → false ≡ hit-fine len previous (hit (getD ws at 0) (getD ws (at + 1) 0)) → false ≡ all
+  pub hits-stop : i < count → false ≡ hit-fine len previous (hit-at (getD ws at 0) (getD ws (at + 1) 0)) → false ≡ all
   unfolding hits-fine
   hits-stop h e = rw (hits-step ws at count i h, ← e) at inv
 

@@ -7,8 +7,8 @@ use native.Mathlib.Nat.{add-zero}
 use lib.ListN.{length, drop, getD}
 use lib.Seq.{getD-drop, drop-drop}
 use Rattle.common.proofs.Loops.{left-suc, left-none}
-use Rattle.pad_map.specs.Bars.{Bar, hit, bar}
-use Rattle.pad_words.specs.Words.{hits-of, bars-of}
+use Rattle.pad_map.specs.Bars.{Bar, bar}
+use Rattle.pad_words.specs.Words.{hit-at, hits-of, bars-of}
 
 -- as many as were asked for
 pub hits-many : (n : ℕ) (ws : List ℕ) → length (hits-of n ws) ≡ n
@@ -36,7 +36,7 @@ bars-cons n ws at =
 
 module _ (ws : List ℕ) (at count i : ℕ) where
   pub hits-step : i < count
-      → hits-of (count - i) (drop at ws) ≡ hit (getD ws at 0) (getD ws (at + 1) 0) ∷ hits-of (count - (i + 1)) (drop (at + 2) ws)
+      → hits-of (count - i) (drop at ws) ≡ hit-at (getD ws at 0) (getD ws (at + 1) 0) ∷ hits-of (count - (i + 1)) (drop (at + 2) ws)
   unfolding hits-of
   hits-step h = rw (left-suc count i h, here ws at, getD-drop at ws 1 0, drop-drop 2 at ws)
 

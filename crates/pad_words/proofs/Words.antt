@@ -2,7 +2,7 @@
 -- Assumes nothing.
 use mathlib.Core.Path.{_≡_, refl, sym, ap, _∙_}
 use mathlib.Core.List.{List, [], _∷_, _++_, append-assoc}
-use Prim.Native.Nat.{ℕ, zero, suc, _+_, _*_, _≤_}
+use Prim.Native.Nat.{ℕ, zero, suc, _+_, _*_, _/_, _%_, _≤_}
 use native.Mathlib.Omega.{arith}
 use lib.ListN.{length, drop, getD, length-append, length-drop}
 use lib.Seq.{drop-drop}
@@ -19,7 +19,8 @@ hits-words (suc n) (a ∷ []) h = absurd (omega arith)
 hits-words (suc n) (a ∷ (b ∷ r)) h =
     let e : 2 * suc n ≡ suc (suc (2 * n)) = omega arith in
     let s = hits-words n r (omega arith) in
-    rw e (ap (λ (l : List ℕ). a ∷ (b ∷ l)) s)
+    let w : a ≡ a % 256 + 256 * (a / 256) = omega arith in
+    rw (e, ← w) (ap (λ (l : List ℕ). a ∷ (b ∷ l)) s)
 
 pub bars-words : (n : ℕ) (ws : List ℕ) → size (bars-of n ws) ≤ length ws → ws ≡ bar-words (bars-of n ws) ++ drop (size (bars-of n ws)) ws
 unfolding bars-of bar-words

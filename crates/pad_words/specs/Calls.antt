@@ -15,10 +15,10 @@ held-bars pad = do
   ok (held pad)
 
 -- the map afterwards
-unfoldable pub pad-save : (pad : List ℕ) (id len : ℕ) (sounds steps : List ℕ) → Result (List Bar)
-pad-save pad id len ss ts = do
+unfoldable pub pad-save : (pad : List ℕ) (id len : ℕ) (sounds steps velocities : List ℕ) → Result (List Bar)
+pad-save pad id len ss ts vs = do
   bars ← held-bars pad
-  save bars id len ss ts
+  save bars id len ss ts vs
 
 -- the bar that was erased
 unfoldable pub pad-erase : (pad : List ℕ) (id : ℕ) → Result Bar
@@ -27,10 +27,10 @@ pad-erase pad id = do
   erase bars id
 
 -- the bar that was read back
-unfoldable pub pad-read : (pad : List ℕ) (id sounds-room steps-room : ℕ) → Result Bar
-pad-read pad id sr tr = do
+unfoldable pub pad-read : (pad : List ℕ) (id sounds-room steps-room velocities-room : ℕ) → Result Bar
+pad-read pad id sr tr vr = do
   bars ← held-bars pad
-  read bars id sr tr
+  read bars id sr tr vr
 
 -- the bytes written out
 unfoldable pub pad-write : (pad text ends : List ℕ) (room : ℕ) → Result (List ℕ)

@@ -1,6 +1,7 @@
 -- How a map is held in words: word 0 is the number of bars, word 1 the number of their hits; then the bars by rising id, one behind the
--- other, each with id, length, number of hits, and its hits; a hit is sound, step. What lies behind the last bar is free.
-use Prim.Native.Nat.{ℕ, zero, suc, _+_, _*_}
+-- other, each with id, length, number of hits, and its hits; a hit is two words, sound + 256 * velocity, step. What lies behind the last
+-- bar is free.
+use Prim.Native.Nat.{ℕ, zero, suc, _+_, _*_, _/_, _%_}
 use mathlib.Core.List.{List, [], _∷_, _++_}
 use lib.ListN.{length, drop, getD}
 use Rattle.pad_map.specs.Bars.{Hit, Bar, hit, bar, hits-in-all}
@@ -13,7 +14,7 @@ pad-words = 17154
 
 abbrev pub hit-words : List Hit → List ℕ
 hit-words [] = []
-hit-words (h ∷ hs) = h .sound ∷ (h .step ∷ hit-words hs)
+hit-words (h ∷ hs) = (h .sound + 256 * h .velocity) ∷ (h .step ∷ hit-words hs)
 
 unfoldable pub bar-words : List Bar → List ℕ
 bar-words [] = []
@@ -30,9 +31,13 @@ stored bars pad = length bars ∷ (hits-in-all bars ∷ (bar-words bars ++ drop 
 
 -- ---- the map that words hold, whatever they are
 
+-- the hit of two words
+abbrev pub hit-at : (first second : ℕ) → Hit
+hit-at w t = hit (w % 256) t (w / 256)
+
 unfoldable pub hits-of : (count : ℕ) → List ℕ → List Hit
 hits-of zero ws = []
-hits-of (suc n) ws = hit (getD ws 0 0) (getD ws 1 0) ∷ hits-of n (drop 2 ws)
+hits-of (suc n) ws = hit-at (getD ws 0 0) (getD ws 1 0) ∷ hits-of n (drop 2 ws)
 
 unfoldable pub bars-of : (count : ℕ) → List ℕ → List Bar
 bars-of zero ws = []

@@ -1,6 +1,7 @@
 // Whether the words are a pad: kind 20.
 use crate::layout::BARS;
 use crate::layout::HITS;
+use crate::layout::VELOCITY;
 use crate::layout::WORDS;
 use common::widths::long;
 use pad_rules::order::follows;
@@ -11,7 +12,7 @@ ghost use lib.ListN.{length, drop};
 ghost use Rattle.common.specs.Slices.{was};
 ghost use Rattle.segment.specs.Records.{rises};
 ghost use Rattle.segment.specs.Steps.{earlier};
-ghost use Rattle.pad_map.specs.Bars.{hit};
+ghost use Rattle.pad_map.specs.Bars.{hit, key};
 ghost use Rattle.pad_map.specs.Rules.{hit-fine as hit-rule, hits-fine as hits-rule};
 ghost use Rattle.pad_words.specs.Words.{hits-of};
 ghost use Rattle.pad_words.specs.Whole.{whole};
@@ -24,10 +25,17 @@ fn hit_fine(
     step_before: u32,
     sound: u32,
     step: u32,
+    velocity: u32,
 ) -> bool
-    ensures { λ r. ⌜ r ≡ hit-rule length (earlier first (hit «sound_before» «step_before»)) (hit sound step) ⌝ }
+    ensures { λ r. ⌜ r ≡ hit-rule length (earlier first (key «sound_before» «step_before»)) (hit sound step velocity) ⌝ }
 {
     if 127 < sound {
+        return false;
+    }
+    if velocity < 1 {
+        return false;
+    }
+    if 127 < velocity {
         return false;
     }
     if !follows(first, sound_before, step_before, sound, step) {
@@ -46,9 +54,18 @@ fn hits_fine(pad: &[u32], from: usize, count: usize, len: u32) -> bool
     let mut step_before: u32 = 0;
     let mut i: usize = 0;
     while i < count {
-        let sound = pad[at];
+        let word = pad[at];
         let step = pad[at + 1];
-        if !hit_fine(len, i == 0, sound_before, step_before, sound, step) {
+        let sound = word % VELOCITY;
+        if !hit_fine(
+            len,
+            i == 0,
+            sound_before,
+            step_before,
+            sound,
+            step,
+            word / VELOCITY,
+        ) {
             return false;
         }
         sound_before = sound;

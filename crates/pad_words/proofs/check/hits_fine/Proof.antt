@@ -9,7 +9,7 @@ use denote.Ref.{now}
 use borrow.Author.Tests.{not-true, not-false}
 use Rattle.segment.specs.Steps.{earlier}
 use Rattle.segment.proofs.Accepted.{earlier-next}
-use Rattle.pad_map.specs.Bars.{hit}
+use Rattle.pad_map.specs.Bars.{key}
 use Rattle.pad_map.specs.Rules.{hits-fine}
 use Rattle.pad_words.specs.Words.{hits-of}
 use Rattle.pad_words.proofs.Checking.{hits-next, hits-stop, hits-done}
@@ -23,7 +23,7 @@ abbrev Inv-loop : tie.InvT-loop
 Inv-loop pad from count len at₀ sound-before₀ step-before₀ i₀ at sound-before step-before i =
     (i ≤ count)
     × (at ≡ from + 2 * i)
-    × (hits-fine len (earlier (eqb i 0) (hit sound-before step-before)) (hits-of (count - i) (drop at pad))
+    × (hits-fine len (earlier (eqb i 0) (key sound-before step-before)) (hits-of (count - i) (drop at pad))
     ≡ hits-fine len none (hits-of count (drop from pad)))
 
 abbrev μ-loop : tie.MeasureT-loop
@@ -34,11 +34,11 @@ loop-holds c =
     let a = c .before .args in
     (omega arith, omega arith, ap (λ (n : ℕ). hits-fine (a .len) none (hits-of n (drop (a .from) (now (a .pad))))) (sub-zero (a .count)))
 
-mul-sound : tie.Need-mul-sound Inv-loop μ-loop
-mul-sound c = search needs
+mul-word : tie.Need-mul-word Inv-loop μ-loop
+mul-word c = search needs
 
-shared-slice-read-sound : tie.Need-shared-slice-read-sound Inv-loop μ-loop
-shared-slice-read-sound c = search needs
+shared-slice-read-word : tie.Need-shared-slice-read-word Inv-loop μ-loop
+shared-slice-read-word c = search needs
 
 add-step : tie.Need-add-step Inv-loop μ-loop
 add-step c = search needs
@@ -94,8 +94,8 @@ hits-fine-spec =
     Inv-loop
     μ-loop
     loop-holds
-    mul-sound
-    shared-slice-read-sound
+    mul-word
+    shared-slice-read-word
     add-step
     mul-step
     shared-slice-read-step
