@@ -8,8 +8,8 @@ use native.Mathlib.Omega.{arith}
 use lib.ListN.{length, drop, getD, set, length-map}
 use Rattle.calls.specs.Replies.{fronted}
 use Rattle.calls.proofs.Filling.{To-store, front-start, next-stored, all-stored, at-front}
-use Rattle.pad_map.specs.Bars.{Hit, hit}
-use Rattle.pad_words.specs.Words.{hits-of}
+use Rattle.pad_map.specs.Bars.{Hit}
+use Rattle.pad_words.specs.Words.{hit-at, hits-of}
 use Rattle.pad_words.proofs.Steps.{hits-many, hits-step, hits-end}
 
 module _ (f : Hit → ℕ) (ws : List ℕ) (from count : ℕ) (entry : List ℕ) where
@@ -25,7 +25,7 @@ module _ (f : Hit → ℕ) (ws : List ℕ) (from count : ℕ) (entry : List ℕ)
     fill-start = front-start (ap (λ (n : ℕ). map f (hits-of n (drop from ws))) (sub-zero count)) (omega (arith, many))
 
   module _ (at i : ℕ) (out : List ℕ) (t : Filling at i out) where
-    pub fill-next : (v : ℕ) → i < count → f (hit (getD ws at 0) (getD ws (at + 1) 0)) ≡ v → Filling (at + 2) (i + 1) (set out i v)
+    pub fill-next : (v : ℕ) → i < count → f (hit-at (getD ws at 0) (getD ws (at + 1) 0)) ≡ v → Filling (at + 2) (i + 1) (set out i v)
     fill-next v h e = next-stored t (rw e at (ap (map f) (hits-step ws at count i h)))
 
     pub fill-end : count ≤ length entry → count ≤ i → out ≡ fronted (map f (hits-of count (drop from ws))) entry

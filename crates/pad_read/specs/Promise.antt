@@ -1,4 +1,4 @@
--- What reading back promises: the reply, and the two lent lists afterwards.
+-- What reading back promises: the reply, and the three lent lists afterwards.
 use Prim.Native.Nat.{ℕ}
 use mathlib.Core.Path.{_≡_}
 use mathlib.Core.List.{List, map}
@@ -22,7 +22,13 @@ bar-sounds b = map (λ h. h .sound) (b .hits)
 abbrev pub bar-steps : Bar → List ℕ
 bar-steps b = map (λ h. h .step) (b .hits)
 
-pub record Bar-read-back (pad : List ℕ) (id : ℕ) (sounds steps : List ℕ) (r : BarRead) (sounds′ steps′ : List ℕ) : Type 0 where
-  pub reply : r ≡ read-answer (pad-read pad id (length sounds) (length steps))
-  pub sounds-left : sounds′ ≡ filled bar-sounds (pad-read pad id (length sounds) (length steps)) sounds
-  pub steps-left : steps′ ≡ filled bar-steps (pad-read pad id (length sounds) (length steps)) steps
+abbrev pub bar-velocities : Bar → List ℕ
+bar-velocities b = map (λ h. h .velocity) (b .hits)
+
+pub record Bar-read-back (pad : List ℕ) (id : ℕ) (sounds steps velocities : List ℕ) (r : BarRead)
+    (sounds′ steps′ velocities′ : List ℕ) : Type 0 where
+  pub reply : r ≡ read-answer (pad-read pad id (length sounds) (length steps) (length velocities))
+  pub sounds-left : sounds′ ≡ filled bar-sounds (pad-read pad id (length sounds) (length steps) (length velocities)) sounds
+  pub steps-left : steps′ ≡ filled bar-steps (pad-read pad id (length sounds) (length steps) (length velocities)) steps
+  pub velocities-left : velocities′
+      ≡ filled bar-velocities (pad-read pad id (length sounds) (length steps) (length velocities)) velocities

@@ -1,6 +1,7 @@
-// A bar read back: its length, and its hits into two lent lists.
+// A bar read back: its length, and its hits into three lent lists.
 use common::widths::long;
 use pad_words::check::is_whole;
+use pad_words::layout::VELOCITY;
 use pad_words::place::Place;
 use pad_words::place::place_of;
 use segment::refusal::broken_pad;
@@ -14,32 +15,49 @@ ghost use Rattle.pad_words.specs.Words.{hits-of};
 ghost use Rattle.pad_read.specs.Promise.{Bar-read-back};
 ghost use Rattle.pad_read.specs.Steps.{low-byte, Fillable, Hits-filled};
 
-// The low byte of a word. Where the words are a pad, a sound is at most 127.
+// The low byte of a word: a hit's sound, or its velocity, which is at most 127 where the words are a pad.
 fn narrow(x: u32) -> u8
     ensures { λ r. ⌜ r ≡ low-byte x ⌝ }
 {
     (x % 256) as u8
 }
 
-// The hits from an offset on, at the front of the two lists.
-fn fill_hits(pad: &[u32], from: usize, count: usize, sounds: &mut [u8], steps: &mut [u32])
-    requires { ⌜ Fillable (now pad) from count (now sounds) (now steps) ⌝ }
-    ensures { λ r. ⌜ Hits-filled (hits-of count (drop from (was pad))) (was sounds) (was steps) (left sounds) (left steps) ⌝ }
+// The hits from an offset on, at the front of the three lists.
+fn fill_hits(
+    pad: &[u32],
+    from: usize,
+    count: usize,
+    sounds: &mut [u8],
+    steps: &mut [u32],
+    velocities: &mut [u8],
+)
+    requires { ⌜ Fillable (now pad) from count (now sounds) (now steps) (now velocities) ⌝ }
+    ensures { λ r. ⌜ Hits-filled (hits-of count (drop from (was pad))) (was sounds) (was steps) (was velocities)
+        (left sounds) (left steps) (left velocities) ⌝ }
 {
     let mut at = from;
     let mut i: usize = 0;
     while i < count {
-        sounds[i] = narrow(pad[at]);
+        let word = pad[at];
+        sounds[i] = narrow(word);
         steps[i] = pad[at + 1];
+        velocities[i] = narrow(word / VELOCITY);
         at += 2;
         i += 1;
     }
 }
 
-// A held bar: how many hits it has and its length, and its hits at the front of the two lists. Or 20; 16; 13 for the sounds, then for the
-// steps, which leave both lists as they were.
-pub fn pad_read(pad: &[u32], id: u32, sounds: &mut [u8], steps: &mut [u32]) -> BarRead
-    ensures { λ r. ⌜ Bar-read-back (was pad) id (was sounds) (was steps) r (left sounds) (left steps) ⌝ }
+// A held bar: how many hits it has and its length, and its hits at the front of the three lists. Or 20; 16; 13 for the sounds, then for the
+// steps, then for the velocities, which leave all three lists as they were.
+pub fn pad_read(
+    pad: &[u32],
+    id: u32,
+    sounds: &mut [u8],
+    steps: &mut [u32],
+    velocities: &mut [u8],
+) -> BarRead
+    ensures { λ r. ⌜ Bar-read-back (was pad) id (was sounds) (was steps) (was velocities)
+        r (left sounds) (left steps) (left velocities) ⌝ }
 {
     if !is_whole(pad) {
         return BarRead::Refused(broken_pad());
@@ -55,6 +73,9 @@ pub fn pad_read(pad: &[u32], id: u32, sounds: &mut [u8], steps: &mut [u32]) -> B
     if steps.len() < count {
         return BarRead::Refused(no_room(2, count));
     }
-    fill_hits(pad, at + 3, count, sounds, steps);
+    if velocities.len() < count {
+        return BarRead::Refused(no_room(3, count));
+    }
+    fill_hits(pad, at + 3, count, sounds, steps, velocities);
     BarRead::Bar(count, len)
 }

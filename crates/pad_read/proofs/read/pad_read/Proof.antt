@@ -15,12 +15,13 @@ use Rattle.pad_words.specs.Whole.{whole}
 use Rattle.pad_words.specs.Steps.{place-from}
 use Rattle.pad_words.proofs.Wholes.{inside}
 use Rattle.pad_words.proofs.Found.{found-room}
-use Rattle.pad_read.proofs.Reading.{read-broken, read-unknown, read-first, read-second, was-refused, was-read}
+use Rattle.pad_read.proofs.Reading.{read-broken, read-unknown, read-first, read-second, read-third}
+use Rattle.pad_read.proofs.Reading.{was-refused, was-read}
 use Rattle.pad_read.proofs.read.pad_read.Statement.{statement}
 use Rattle.pad_read.proofs.read.pad_read.Tie as tie
 
 abbrev entry : tie.Else1 → tie.Start
-entry c = c .before .before .before .before .before
+entry c = c .before .before .before .before .before .before
 
 abbrev words : tie.Else1 → List ℕ
 words c = now (entry c .args .pad)
@@ -47,7 +48,7 @@ broken-pad-requires c κs = search needs
 returns : tie.Need-returns
 returns c =
     rw (c .broken-pad .ensures)
-    (was-refused _ _ _ _ (read-broken _ _ _ _ (sym (c .before .before .is-whole .ensures) ∙ not-true _ (c .before .if1 .taken))))
+    (was-refused _ _ _ _ _ (read-broken _ _ _ _ _ (sym (c .before .before .is-whole .ensures) ∙ not-true _ (c .before .if1 .taken))))
 
 place-of-requires : tie.Need-place-of-requires
 place-of-requires c κs = inside _ (is-one c)
@@ -66,7 +67,7 @@ returns-2 c =
     let t = c .before in
     let e = t .before .before .before in
     rw (c .unknown-bar .ensures)
-    (was-refused _ _ _ _ (read-unknown _ _ (is-one e) _ _ (sym (t .before .before .place-of .ensures) ∙ t .enum-told .given .1)))
+    (was-refused _ _ _ _ _ (read-unknown _ _ (is-one e) _ _ _ (sym (t .before .before .place-of .ensures) ∙ t .enum-told .given .1)))
 
 add-len : tie.Need-add-len
 add-len c = omega (arith, room (c .before))
@@ -98,7 +99,7 @@ returns-3 c =
     let k = t .before .before .before .before in
     let e = k .before .before .before in
     rw (c .no-room .ensures)
-    (was-refused _ _ _ _ (read-first _ _ (is-one e) (begins k) (t .long .ensures) _ _ (c .before .if2 .taken)))
+    (was-refused _ _ _ _ _ (read-first _ _ (is-one e) (begins k) (t .long .ensures) _ _ _ (c .before .if2 .taken)))
 
 no-room-requires-2 : tie.Need-no-room-requires-2
 no-room-requires-2 c κs = search needs
@@ -109,21 +110,36 @@ returns-4 c =
     let k = t .before .before .before .before in
     let e = k .before .before .before in
     rw (c .no-room2 .ensures)
-    (was-refused _ _ _ _
-    (read-second _ _ (is-one e) (begins k) (t .long .ensures) _ _ (c .before .before .if2 .left) (c .before .if3 .taken)))
+    (was-refused _ _ _ _ _
+    (read-second _ _ (is-one e) (begins k) (t .long .ensures) _ _ _ (c .before .before .if2 .left) (c .before .if3 .taken)))
+
+no-room-requires-3 : tie.Need-no-room-requires-3
+no-room-requires-3 c κs = search needs
+
+returns-5 : tie.Need-returns-5
+returns-5 c =
+    let f = c .before .before in
+    let t = f .before .before in
+    let k = t .before .before .before .before in
+    let e = k .before .before .before in
+    rw (c .no-room3 .ensures)
+    (was-refused _ _ _ _ _
+    (read-third _ _ (is-one e) (begins k) (t .long .ensures) _ _ _ (f .before .if2 .left) (f .if3 .left) (c .before .if4 .taken)))
 
 add-fill-hits : tie.Need-add-fill-hits
-add-fill-hits c = omega (arith, room (c .before .before .before .before .before .before))
+add-fill-hits c = omega (arith, room (c .before .before .before .before .before .before .before))
 
 fill-hits-requires : tie.Need-fill-hits-requires
 fill-hits-requires c κs =
-    let f = c .before .before in
+    let v = c .before .before .before in
+    let f = v .before in
     let t = f .before .before in
     let r = room (t .before .before .before .before) in
     record {
       inside = omega (arith, r, t .long .ensures);
       sounds-room = f .before .if2 .left;
       steps-room = f .if3 .left;
+      velocities-room = v .if4 .left;
     }
 
 same-length : tie.Need-same-length
@@ -132,15 +148,19 @@ same-length c = search needs
 same-length-2 : tie.Need-same-length-2
 same-length-2 c = search needs
 
-returns-5 : tie.Need-returns-5
-returns-5 c =
-    let g = c .before .before .before .before in
-    let f = g .before .before .before in
+same-length-3 : tie.Need-same-length-3
+same-length-3 c = search needs
+
+returns-6 : tie.Need-returns-6
+returns-6 c =
+    let g = c .before .before .before .before .before .before in
+    let v = g .before .before .before .before in
+    let f = v .before in
     let t = f .before .before in
     let k = t .before .before .before .before in
     let e = k .before .before .before in
-    was-read (words e) (entry e .args .id) _ _ (is-one e) (begins k) (t .long .ensures) (f .before .if2 .left) (f .if3 .left)
-    (g .fill-hits .ensures)
+    was-read (words e) (entry e .args .id) _ _ _ (is-one e) (begins k) (t .long .ensures) (f .before .if2 .left) (f .if3 .left)
+    (v .if4 .left) (g .fill-hits .ensures)
 
 pub pad-read-spec : {M : Type 1} → statement M
 pad-read-spec =
@@ -165,8 +185,11 @@ pad-read-spec =
     returns-3
     no-room-requires-2
     returns-4
+    no-room-requires-3
+    returns-5
     add-fill-hits
     fill-hits-requires
     same-length
     same-length-2
-    returns-5)
+    same-length-3
+    returns-6)
