@@ -1,6 +1,6 @@
 -- Saving: its tests of the lists are the rules for hits; a bar within the rules is saved exactly where its id is free and there is room.
 -- Assumes nothing.
-use mathlib.Core.Path.{_≡_, refl, sym}
+use mathlib.Core.Path.{_≡_, refl, sym, _∙_}
 use mathlib.Core.Bool.{Bool, true, not, _&&_}
 use mathlib.Core.List.{List, [], _∷_}
 use mathlib.Core.Option.{Option, none, some}
@@ -10,11 +10,13 @@ use lib.Dec.{ltb, leb, eqb}
 use lib.ListN.{length}
 use borrow.Author.Tests.{ltb-true, leb-true, eqb-true, lt-ltb, le-leb, eq-eqb}
 use Rattle.common.proofs.Loops.{true-false, and-left, and-right}
+use Rattle.common.specs.Lists.{paired}
+use Rattle.common.proofs.Pairs.{paired-count}
 use Rattle.segment.specs.Results.{ok}
 use Rattle.segment.proofs.Binds.{bind-gives, ok-same}
 use Rattle.segment.proofs.Accepted.{check-gives}
 use Rattle.segment.proofs.Inversions.{last-gives}
-use Rattle.pad_map.specs.Bars.{Bar, Key, hit, key, bar, hits-in, lookup, insert, hits-in-all}
+use Rattle.pad_map.specs.Bars.{Bar, Key, hit, key, with-velocity, bar, hits-in, lookup, insert, hits-in-all}
 use Rattle.pad_map.specs.Rules.{comes-after, velocity-fits, hit-fine, hits-fine}
 use Rattle.pad_map.specs.Rules.{all-up-to, all-audible, hits-rise, all-below, check-hits}
 use Rattle.pad_map.specs.Acts.{is-some, save}
@@ -100,6 +102,12 @@ module _ (ss ts vs : List ℕ) where
         le-leb (length ts) 16777216 (omega arith),
         le-leb (length vs) 16777216 (omega arith),
       )
+
+  -- as many hits as sounds
+  pub hits-count : Side-by-side ss ts vs → length (hits-in ss ts vs) ≡ length ss
+  hits-count w =
+      let keys = paired-count key ss ts (w .as-many-steps) in
+      paired-count with-velocity (paired key ss ts) vs (keys ∙ w .as-many-velocities) ∙ keys
 
   pub even-from : Side-by-side ss ts vs → even-test ≡ true
   even-from w = rw (eq-eqb (length ss) (length ts) (w .as-many-steps), eq-eqb (length ss) (length vs) (w .as-many-velocities))

@@ -71,14 +71,17 @@ up-next pad₀ pad i to by inv h k m =
 
 -- ---- hits stored
 
-module _ (pad ss ts : List ℕ) (next i : ℕ) (e : length ss ≡ length ts) {all : List ℕ}
-    (inv : sets pad next (hit-words (hits-in (drop i ss) (drop i ts))) ≡ all) where
-  pub put-next : i < length ss → (s : ℕ) → s ≡ getD ss i 0
-      → sets (set (set pad next s) (next + 1) (getD ts i 0)) (next + 2) (hit-words (hits-in (drop (i + 1) ss) (drop (i + 1) ts))) ≡ all
-  put-next h s is =
+module _ (pad ss ts vs : List ℕ) (next i : ℕ) (e : length ss ≡ length ts) (d : length ss ≡ length vs) {all : List ℕ}
+    (inv : sets pad next (hit-words (hits-in (drop i ss) (drop i ts) (drop i vs))) ≡ all) where
+  pub put-next : i < length ss → (w : ℕ) → w ≡ getD ss i 0 + 256 * getD vs i 0
+      → sets (set (set pad next w) (next + 1) (getD ts i 0)) (next + 2)
+      (hit-words (hits-in (drop (i + 1) ss) (drop (i + 1) ts) (drop (i + 1) vs)))
+      ≡ all
+  put-next h w is =
       let one : next + 1 ≡ suc next = omega arith in
       let two : next + 2 ≡ suc (suc next) = omega arith in
-      rw (is, one, two) (rw (drop-step ss i 0 h, drop-step ts i 0 (omega arith)) at inv)
+      rw (is, one, two)
+      (rw (drop-step ss i 0 h, drop-step ts i 0 (omega arith), drop-step vs i 0 (omega arith)) at inv)
 
   pub put-end : length ss ≤ i → pad ≡ all
   put-end h = rw (drop-end ss i h) at inv
@@ -94,9 +97,9 @@ three-sets l k a b c = simp length-set
 pub put-same : {words pad pad′ : List ℕ} {at : ℕ} → Put words at pad pad′ → length pad′ ≡ length pad
 put-same {words} {pad} {pad′} {at} m = ap length (m .left) ∙ length-sets pad at words
 
-pub bar-same : {pad ss ts pad′ : List ℕ} {p end id len : ℕ} → Bar-put pad p end id len ss ts pad′ → length pad′ ≡ length pad
-bar-same {pad} {ss} {ts} {pad′} {p} {end} {id} {len} m =
-    ap length (m .left) ∙ length-sets (sets pad (p + (3 + 2 * length ss)) (between p end pad)) p (words-of id len ss ts)
+pub bar-same : {pad ss ts vs pad′ : List ℕ} {p end id len : ℕ} → Bar-put pad p end id len ss ts vs pad′ → length pad′ ≡ length pad
+bar-same {pad} {ss} {ts} {vs} {pad′} {p} {end} {id} {len} m =
+    ap length (m .left) ∙ length-sets (sets pad (p + (3 + 2 * length ss)) (between p end pad)) p (words-of id len ss ts vs)
     ∙ length-sets pad (p + (3 + 2 * length ss)) (between p end pad)
 
 -- ---- three words stored, and a run behind them

@@ -9,20 +9,20 @@ use Prim.Native.Nat.{ℕ, _+_, _≤_}
 use native.Mathlib.Omega.{arith}
 use lib.ListN.{length, drop, getD}
 use Rattle.common.specs.Elements.{_∈_, Rising}
-use Rattle.common.proofs.Pairs.{paired-count}
 use Rattle.segment.specs.declared.refusal.Refusal.{Refusal}
 use Rattle.segment.specs.declared.replies.Counted.the-variants as counted
 use Rattle.segment.specs.Results.{ok, refuse}
 use Rattle.segment.proofs.Binds.{refuse-ok}
-use Rattle.pad_map.specs.Bars.{Bar, hit, bar, hits-in, without, hits-in-all}
+use Rattle.pad_map.specs.Bars.{Bar, bar, hits-in, without, hits-in-all}
 use Rattle.pad_map.specs.Rules.{Hits-fine}
 use Rattle.pad_map.specs.Acts.{save}
 use Rattle.pad_map.specs.Claims.{ids}
 use Rattle.pad_map.proofs.Mapped.{insert-gives, without-gives, insert-counts, without-fewer, added-rises, taken-out-rises}
-use Rattle.pad_map.proofs.Saved.{save-gives}
+use Rattle.pad_map.proofs.Saved.{hits-count, save-gives}
 use Rattle.pad_words.specs.Words.{pad-words, stored, held}
 use Rattle.pad_words.specs.Whole.{Whole, whole}
 use Rattle.pad_words.specs.Calls.{held-bars, pad-save, pad-erase}
+use Rattle.pad_words.specs.Claims.{Sounds-fit}
 use Rattle.pad_words.proofs.Steps.{hits-many, bar-at}
 use Rattle.pad_words.proofs.Wholes.{held-many, size-is}
 use Rattle.pad_words.proofs.Exactly.{whole-exactly}
@@ -37,10 +37,14 @@ record Fits (bars : List Bar) : Type 0 where
   pub ids-rise : Rising (ids bars)
   pub each : (b : Bar) → b ∈ bars → Hits-fine (b .len) (b .hits)
 
+-- their sounds fit
+low : {bars : List Bar} → Fits bars → Sounds-fit bars
+low f b m h k = omega (arith, f .each b m .sounds h k)
+
 whole-again : (bars : List Bar) (pad : List ℕ) → length pad ≡ pad-words → Fits bars → Whole (stored bars pad)
 unfolding stored
 whole-again bars pad l f =
-    let same = held-stored bars pad in
+    let same = held-stored bars pad (low f) in
     let few = f .few-bars in
     let fewer = f .few-hits in
     record {
@@ -54,16 +58,16 @@ whole-again bars pad l f =
 
 holds-again : (bars : List Bar) (pad : List ℕ) → length pad ≡ pad-words → Fits bars → held-bars (stored bars pad) ≡ ok bars
 unfolding held-bars
-holds-again bars pad l f = rw (whole-exactly (stored bars pad) .1 (whole-again bars pad l f), held-stored bars pad)
+holds-again bars pad l f = rw (whole-exactly (stored bars pad) .1 (whole-again bars pad l f), held-stored bars pad (low f))
 
 module _ (pad : List ℕ) (w : Whole pad) where
-  saved-holds : (id len : ℕ) (ss ts : List ℕ) (bars : List Bar) → save (held pad) id len ss ts ≡ ok bars
+  saved-holds : (id len : ℕ) (ss ts vs : List ℕ) (bars : List Bar) → save (held pad) id len ss ts vs ≡ ok bars
       → held-bars (stored bars pad) ≡ ok bars
-  saved-holds id len ss ts bars e =
-      let a = save-gives (held pad) id len ss ts bars e in
-      let b = bar id len (hits-in ss ts) in
+  saved-holds id len ss ts vs bars e =
+      let a = save-gives (held pad) id len ss ts vs bars e in
+      let b = bar id len (hits-in ss ts vs) in
       let (m, n) = insert-counts b (held pad) in
-      let many = paired-count hit ss ts (a .lists .side-by-side) in
+      let many = hits-count ss ts vs (a .lists .side-by-side) in
       holds-again bars pad (w .words)
       (rw (a .is)
       (record {
@@ -73,7 +77,7 @@ module _ (pad : List ℕ) (w : Whole pad) where
         each = λ c k. fine c (a .lists .fine) (insert-gives b (held pad) c k);
       }))
     where
-      fine : (c : Bar) → Hits-fine len (hits-in ss ts) → (c ≡ bar id len (hits-in ss ts)) ⊎ (c ∈ held pad) → Hits-fine (c .len) (c .hits)
+      fine : (c : Bar) → Hits-fine len (hits-in ss ts vs) → (c ≡ bar id len (hits-in ss ts vs)) ⊎ (c ∈ held pad) → Hits-fine (c .len) (c .hits)
       fine c f (inl y) = rw y f
       fine c f (inr k) = w .each c k
 
@@ -103,12 +107,12 @@ module _ (pad : List ℕ) (id : ℕ) where
 
 -- ---- saving
 
-module _ (pad : List ℕ) (id len : ℕ) (ss ts : List ℕ) where
-  pub not-saved : {x : Refusal} → pad-save pad id len ss ts ≡ refuse x → Bar-saved pad id len ss ts (counted.Refused x) pad
+module _ (pad : List ℕ) (id len : ℕ) (ss ts vs : List ℕ) where
+  pub not-saved : {x : Refusal} → pad-save pad id len ss ts vs ≡ refuse x → Bar-saved pad id len ss ts vs (counted.Refused x) pad
   not-saved e = record { reply = rw e; words = rw e; map = λ b k. refuse-ok (sym e ∙ k) }
 
-  pub was-saved : whole pad ≡ true → (bars : List Bar) (pad′ : List ℕ) → pad-save pad id len ss ts ≡ ok bars → pad′ ≡ stored bars pad
-      → Bar-saved pad id len ss ts (counted.Count (length ss)) pad′
+  pub was-saved : whole pad ≡ true → (bars : List Bar) (pad′ : List ℕ) → pad-save pad id len ss ts vs ≡ ok bars → pad′ ≡ stored bars pad
+      → Bar-saved pad id len ss ts vs (counted.Count (length ss)) pad′
   was-saved w bars pad′ e l =
-      let again = saved-holds pad (whole-exactly pad .0 w) id len ss ts bars (sym (save-is pad id len ss ts w) ∙ e) in
+      let again = saved-holds pad (whole-exactly pad .0 w) id len ss ts vs bars (sym (save-is pad id len ss ts vs w) ∙ e) in
       record { reply = rw e; words = rw e l; map = λ b k. ap held-bars l ∙ again ∙ (sym e ∙ k) }

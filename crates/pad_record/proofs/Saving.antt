@@ -9,15 +9,15 @@ use native.Mathlib.Omega.{arith}
 use lib.ListN.{length, take, drop, getD, set, length-append}
 use lib.Seq.{sets, sets-eq, take-at, drop-at, take-append-le, take-take, length-take-le}
 use borrow.Author.Tests.{lt-ltb, le-ltb, le-leb, lt-leb}
-use Rattle.common.proofs.Pairs.{paired-count}
 use Rattle.segment.specs.declared.refusal.Refusal.{Refusal}
 use Rattle.segment.specs.Refusals.{broken-pad, already-held, pad-full}
 use Rattle.segment.specs.Results.{ok, refuse}
 use Rattle.segment.specs.Records.{between}
-use Rattle.pad_map.specs.Bars.{Bar, hit, bar, hits-in, lookup, insert, hits-in-all}
+use Rattle.pad_map.specs.Bars.{Bar, bar, hits-in, lookup, insert, hits-in-all}
 use Rattle.pad_map.specs.Rules.{check-hits}
 use Rattle.pad_map.specs.Acts.{save}
 use Rattle.pad_map.specs.Claims.{Lists-well}
+use Rattle.pad_map.proofs.Saved.{hits-count}
 use Rattle.pad_words.specs.declared.place.Place.the-variants.{Held, Free}
 use Rattle.pad_words.specs.Words.{size, hit-words, bar-words, held, stored}
 use Rattle.pad_words.specs.Whole.{whole}
@@ -65,17 +65,17 @@ one-bar : (b : Bar) → bar-words (b ∷ []) ≡ b .id ∷ (b .len ∷ (length (
 unfolding bar-words
 one-bar b = refl
 
-module _ (pad : List ℕ) (id len : ℕ) (ss ts : List ℕ) where
-  pub save-broken : whole pad ≡ false → pad-save pad id len ss ts ≡ refuse broken-pad
+module _ (pad : List ℕ) (id len : ℕ) (ss ts vs : List ℕ) where
+  pub save-broken : whole pad ≡ false → pad-save pad id len ss ts vs ≡ refuse broken-pad
   unfolding pad-save held-bars
   save-broken e = rw e
 
   module _ (w : whole pad ≡ true) where
-    pub save-is : pad-save pad id len ss ts ≡ save (held pad) id len ss ts
+    pub save-is : pad-save pad id len ss ts vs ≡ save (held pad) id len ss ts vs
     unfolding pad-save held-bars
     save-is = rw w
 
-    pub save-held : {p : ℕ} → place-from 2 (held pad) id ≡ Held p → pad-save pad id len ss ts ≡ refuse already-held
+    pub save-held : {p : ℕ} → place-from 2 (held pad) id ≡ Held p → pad-save pad id len ss ts vs ≡ refuse already-held
     unfolding save
     save-held q = save-is ∙ rw (looked pad id w q)
 
@@ -83,30 +83,30 @@ module _ (pad : List ℕ) (id len : ℕ) (ss ts : List ℕ) where
       absent : lookup (held pad) id ≡ none
       absent = not-held pad id w q
 
-      pub save-lists : {x : Refusal} → check-hits len ss ts ≡ refuse x → pad-save pad id len ss ts ≡ refuse x
+      pub save-lists : {x : Refusal} → check-hits len ss ts vs ≡ refuse x → pad-save pad id len ss ts vs ≡ refuse x
       unfolding save
       save-lists e = save-is ∙ rw (absent, e)
 
-      module _ (e : check-hits len ss ts ≡ ok tt) where
-        pub save-bars : 256 ≤ getD pad 0 0 → pad-save pad id len ss ts ≡ refuse pad-full
+      module _ (e : check-hits len ss ts vs ≡ ok tt) where
+        pub save-bars : 256 ≤ getD pad 0 0 → pad-save pad id len ss ts vs ≡ refuse pad-full
         unfolding save
         save-bars h = save-is ∙ rw (absent, e, held-many pad, le-ltb (getD pad 0 0) 256 h)
 
         module _ (h : getD pad 0 0 < 256) where
-          pub save-hits : 8192 < getD pad 1 0 + length ss → pad-save pad id len ss ts ≡ refuse pad-full
+          pub save-hits : 8192 < getD pad 1 0 + length ss → pad-save pad id len ss ts vs ≡ refuse pad-full
           unfolding save
           save-hits k =
               save-is
               ∙ rw (absent, e, held-many pad, total-is pad w, lt-ltb (getD pad 0 0) 256 h, lt-leb (getD pad 1 0 + length ss) 8192 k)
 
-          pub save-fine : getD pad 1 0 + length ss ≤ 8192 → pad-save pad id len ss ts ≡ ok (insert (bar id len (hits-in ss ts)) (held pad))
+          pub save-fine : getD pad 1 0 + length ss ≤ 8192 → pad-save pad id len ss ts vs ≡ ok (insert (bar id len (hits-in ss ts vs)) (held pad))
           unfolding save
           save-fine k =
               save-is
               ∙ rw (absent, e, held-many pad, total-is pad w, lt-ltb (getD pad 0 0) 256 h, le-leb (getD pad 1 0 + length ss) 8192 k)
 
-      split : Free-split 2 (held pad) (bar id len (hits-in ss ts)) p
-      split = free-split 2 (held pad) (bar id len (hits-in ss ts)) q
+      split : Free-split 2 (held pad) (bar id len (hits-in ss ts vs)) p
+      split = free-split 2 (held pad) (bar id len (hits-in ss ts vs)) q
 
       counts : (getD pad 0 0 ≡ length (split .before) + length (split .behind))
           × (getD pad 1 0 ≡ hits-in-all (split .before) + hits-in-all (split .behind))
@@ -133,21 +133,21 @@ module _ (pad : List ℕ) (id len : ℕ) (ss ts : List ℕ) where
           ∙ ap (λ (l : List ℕ). getD pad 0 0 ∷ (getD pad 1 0 ∷ l))
           (ap (λ (l : List ℕ). l ++ R) e ∙ append-assoc (bar-words (s .before)) (bar-words (s .behind)) R)
 
-      module _ (lists : Lists-well len ss ts) (h : getD pad 0 0 < 256) (k : getD pad 1 0 + length ss ≤ 8192) where
-        many : length (hits-in ss ts) ≡ length ss
-        many = paired-count hit ss ts (lists .side-by-side)
+      module _ (lists : Lists-well len ss ts vs) (h : getD pad 0 0 < 256) (k : getD pad 1 0 + length ss ≤ 8192) where
+        many : length (hits-in ss ts vs) ≡ length ss
+        many = hits-count ss ts vs (lists .side-by-side)
 
-        words-same : words-of id len ss ts ≡ bar-words (bar id len (hits-in ss ts) ∷ [])
-        words-same = sym (one-bar (bar id len (hits-in ss ts)) ∙ rw (many, append-nil (hit-words (hits-in ss ts))))
+        words-same : words-of id len ss ts vs ≡ bar-words (bar id len (hits-in ss ts vs) ∷ [])
+        words-same = sym (one-bar (bar id len (hits-in ss ts vs)) ∙ rw (many, append-nil (hit-words (hits-in ss ts vs))))
 
         save-left : (end : ℕ) → end ≡ 2 + 3 * getD pad 0 0 + 2 * getD pad 1 0
-            → set (set (sets (sets pad (p + (3 + 2 * length ss)) (between p end pad)) p (words-of id len ss ts)) 0 (getD pad 0 0 + 1)) 1
+            → set (set (sets (sets pad (p + (3 + 2 * length ss)) (between p end pad)) p (words-of id len ss ts vs)) 0 (getD pad 0 0 + 1)) 1
             (getD pad 1 0 + length ss)
-            ≡ stored (insert (bar id len (hits-in ss ts)) (held pad)) pad
+            ≡ stored (insert (bar id len (hits-in ss ts vs)) (held pad)) pad
         unfolding stored
         save-left end f =
             let s = split in
-            let b = bar id len (hits-in ss ts) in
+            let b = bar id len (hits-in ss ts vs) in
             let o = whole-parts pad w in
             let X = bar-words (s .before) in
             let B = bar-words (b ∷ []) in
@@ -176,8 +176,8 @@ module _ (pad : List ℕ) (id len : ℕ) (ss ts : List ℕ) where
 
         -- the stores of the code
         pub save-stores : (bars total : ℕ) (put : List ℕ) → bars ≡ getD pad 0 0 → total ≡ getD pad 1 0
-            → Bar-put pad p (2 + 3 * bars + 2 * total) id len ss ts put
-            → set (set put 0 (bars + 1)) 1 (total + length ss) ≡ stored (insert (bar id len (hits-in ss ts)) (held pad)) pad
+            → Bar-put pad p (2 + 3 * bars + 2 * total) id len ss ts vs put
+            → set (set put 0 (bars + 1)) 1 (total + length ss) ≡ stored (insert (bar id len (hits-in ss ts vs)) (held pad)) pad
         save-stores bars total put e f m =
             rw (e, f)
             (ap (λ (l : List ℕ). set (set l 0 (getD pad 0 0 + 1)) 1 (getD pad 1 0 + length ss)) (rw (e, f) at (m .left))

@@ -15,11 +15,11 @@ abbrev pub save-answer : (hits : ℕ) → Result (List Bar) → Counted
 save-answer hits (ok bars) = counted.Count hits
 save-answer hits (refuse x) = counted.Refused x
 
-pub record Bar-saved (pad : List ℕ) (id len : ℕ) (sounds steps : List ℕ) (r : Counted) (pad′ : List ℕ) : Type 0 where
-  pub reply : r ≡ save-answer (length sounds) (pad-save pad id len sounds steps)
-  pub words : pad′ ≡ saved-words (pad-save pad id len sounds steps) pad
+pub record Bar-saved (pad : List ℕ) (id len : ℕ) (sounds steps velocities : List ℕ) (r : Counted) (pad′ : List ℕ) : Type 0 where
+  pub reply : r ≡ save-answer (length sounds) (pad-save pad id len sounds steps velocities)
+  pub words : pad′ ≡ saved-words (pad-save pad id len sounds steps velocities) pad
   -- a pad again, which holds the new map
-  pub map : (bars : List Bar) → pad-save pad id len sounds steps ≡ ok bars → held-bars pad′ ≡ ok bars
+  pub map : (bars : List Bar) → pad-save pad id len sounds steps velocities ≡ ok bars → held-bars pad′ ≡ ok bars
 
 -- erasing answers the hits that the bar had
 abbrev pub erase-answer : Result Bar → Counted

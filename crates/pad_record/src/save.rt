@@ -15,10 +15,17 @@ use segment::replies::Counted;
 ghost use Rattle.common.specs.Slices.{was, left};
 ghost use Rattle.pad_record.specs.Promise.{Bar-saved};
 
-// How many hits the bar has, which is held from now on; the bars behind its offset move up. Or 20; 18; 12, 11, a sound above 127 (12), hit
-// order (6/20), a step not below the length (6/21); 19, which leave every word as it was.
-pub fn pad_save(pad: &mut [u32], id: u32, length: u32, sounds: &[u8], steps: &[u32]) -> Counted
-    ensures { λ r. ⌜ Bar-saved (was pad) id length (was sounds) (was steps) r (left pad) ⌝ }
+// How many hits the bar has, which is held from now on; the bars behind its offset move up. Or 20; 18; 12, 11, a sound above 127 (12), a
+// velocity outside 1 to 127 (22), hit order (6/20), a step not below the length (6/21); 19, which leave every word as it was.
+pub fn pad_save(
+    pad: &mut [u32],
+    id: u32,
+    length: u32,
+    sounds: &[u8],
+    steps: &[u32],
+    velocities: &[u8],
+) -> Counted
+    ensures { λ r. ⌜ Bar-saved (was pad) id length (was sounds) (was steps) (was velocities) r (left pad) ⌝ }
 {
     if !is_whole(pad) {
         return Counted::Refused(broken_pad());
@@ -26,7 +33,7 @@ pub fn pad_save(pad: &mut [u32], id: u32, length: u32, sounds: &[u8], steps: &[u
     let Place::Free(at) = place_of(pad, id) else {
         return Counted::Refused(already_held());
     };
-    if let Checked::Refused(x) = check_hits_of(length, sounds, steps) {
+    if let Checked::Refused(x) = check_hits_of(length, sounds, steps, velocities) {
         return Counted::Refused(x);
     }
     let bars = long(pad[0]);
@@ -38,7 +45,16 @@ pub fn pad_save(pad: &mut [u32], id: u32, length: u32, sounds: &[u8], steps: &[u
     if HITS < total + count {
         return Counted::Refused(pad_full());
     }
-    put_bar(pad, at, 2 + 3 * bars + 2 * total, id, length, sounds, steps);
+    put_bar(
+        pad,
+        at,
+        2 + 3 * bars + 2 * total,
+        id,
+        length,
+        sounds,
+        steps,
+        velocities,
+    );
     pad[0] = (bars + 1) as u32;
     pad[1] = (total + count) as u32;
     Counted::Count(count)

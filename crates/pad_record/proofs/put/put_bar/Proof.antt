@@ -14,7 +14,7 @@ abbrev moved : tie.After-slice-known2 → tie.After-move-up
 moved c = c .before .before
 
 abbrev start : tie.After-move-up → tie.Start
-start c = c .before .before .before .before .before
+start c = c .before .before .before .before .before .before
 
 still : (c : tie.After-slice-known2) → length (moved c .move-up .last .0) ≡ length (now (start (moved c) .args .pad))
 still c = put-same (moved c .move-up .ensures)
@@ -61,7 +61,11 @@ add-put-hits c = search needs
 put-hits-requires : tie.Need-put-hits-requires
 put-hits-requires c κs =
     let e = start (moved (c .before)) in
-    (e .pre .side-by-side, simp length-set (omega (arith, e .pre, still (c .before))))
+    record {
+      room = simp length-set (omega (arith, e .pre, still (c .before)));
+      as-many-steps = e .pre .as-many-steps;
+      as-many-velocities = e .pre .as-many-velocities;
+    }
 
 same-length : tie.Need-same-length
 same-length c =

@@ -14,23 +14,27 @@ use Rattle.pad_record.proofs.put.put_hits.Statement.{statement}
 use Rattle.pad_record.proofs.put.put_hits.Tie as tie
 
 abbrev Inv-loop : tie.InvT-loop
-Inv-loop pad₀ at sounds steps next₀ i₀ pad next i =
+Inv-loop pad₀ at sounds steps velocities next₀ i₀ pad next i =
     (i ≤ length sounds)
     × (next ≡ at + 2 * i)
     × (length pad ≡ length pad₀)
-    × (sets pad next (hit-words (hits-in (drop i sounds) (drop i steps))) ≡ sets pad₀ at (hit-words (hits-in sounds steps)))
+    × (sets pad next (hit-words (hits-in (drop i sounds) (drop i steps) (drop i velocities)))
+    ≡ sets pad₀ at (hit-words (hits-in sounds steps velocities)))
 
 abbrev μ-loop : tie.MeasureT-loop
-μ-loop pad₀ at sounds steps next₀ i₀ pad next i = length sounds - i
+μ-loop pad₀ at sounds steps velocities next₀ i₀ pad next i = length sounds - i
 
 loop-holds : tie.Need-loop-holds Inv-loop μ-loop
 loop-holds c = (omega arith, omega arith, refl, refl)
 
-shared-slice-read-byte : tie.Need-shared-slice-read-byte Inv-loop μ-loop
-shared-slice-read-byte c = search needs
+shared-slice-read-first-word : tie.Need-shared-slice-read-first-word Inv-loop μ-loop
+shared-slice-read-first-word c = search needs
 
-byte-requires : tie.Need-byte-requires Inv-loop μ-loop
-byte-requires c κs = search needs
+shared-slice-read-first-word-2 : tie.Need-shared-slice-read-first-word-2 Inv-loop μ-loop
+shared-slice-read-first-word-2 c = search needs
+
+first-word-requires : tie.Need-first-word-requires Inv-loop μ-loop
+first-word-requires c κs = search needs
 
 mul-pad : tie.Need-mul-pad Inv-loop μ-loop
 mul-pad c = search needs
@@ -64,15 +68,15 @@ loop-less c = search needs
 
 loop-again : tie.Need-loop-again Inv-loop μ-loop
 loop-again c =
-    let l = c .before .before .before .before in
-    let e = l .before .before .before .before in
+    let l = c .before .before .before .before .before in
+    let e = l .before .before .before .before .before in
     let a = e .args in
     let v = l .loop .inv in (
       omega arith,
       omega arith,
       two-sets (l .loop .pad) (l .loop .next) _ _ ∙ v .2,
-      put-next (l .loop .pad) (now (a .sounds)) (now (a .steps)) (l .loop .next) (l .loop .i) (e .pre .0) (v .3)
-          (omega arith) _ (c .before .byte .ensures),
+      put-next (l .loop .pad) (now (a .sounds)) (now (a .steps)) (now (a .velocities)) (l .loop .next) (l .loop .i)
+          (e .pre .as-many-steps) (e .pre .as-many-velocities) (v .3) (omega arith) _ (c .before .first-word .ensures),
     )
 
 same-length : tie.Need-same-length Inv-loop μ-loop
@@ -81,11 +85,13 @@ same-length c = c .before .loop .inv .2
 returns : tie.Need-returns Inv-loop μ-loop
 returns c =
     let l = c .before in
-    let e = l .before .before .before .before in
+    let e = l .before .before .before .before .before in
     let a = e .args in
     let inv = l .loop .inv .3 in
     record {
-      left = put-end (l .loop .pad) (now (a .sounds)) (now (a .steps)) (l .loop .next) (l .loop .i) (e .pre .0) inv (c .loop-test .left);
+      left =
+          put-end (l .loop .pad) (now (a .sounds)) (now (a .steps)) (now (a .velocities)) (l .loop .next) (l .loop .i)
+          (e .pre .as-many-steps) (e .pre .as-many-velocities) inv (c .loop-test .left);
     }
 
 pub put-hits-spec : {M : Type 1} → statement M
@@ -95,8 +101,9 @@ put-hits-spec =
     Inv-loop
     μ-loop
     loop-holds
-    shared-slice-read-byte
-    byte-requires
+    shared-slice-read-first-word
+    shared-slice-read-first-word-2
+    first-word-requires
     mul-pad
     slice-write-pad
     mul-pad-2

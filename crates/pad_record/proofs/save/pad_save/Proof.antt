@@ -26,7 +26,7 @@ use Rattle.pad_record.proofs.save.pad_save.Statement.{statement}
 use Rattle.pad_record.proofs.save.pad_save.Tie as tie
 
 abbrev entry : tie.Else1 → tie.Start
-entry c = c .before .before .before .before .before .before
+entry c = c .before .before .before .before .before .before .before
 
 abbrev words : tie.Else1 → List ℕ
 words c = now (entry c .args .pad)
@@ -49,12 +49,12 @@ abbrev at-of : tie.After-enum-told2 → tie.After-at
 at-of c = c .before .before .before .before
 
 passes : (c : tie.After-enum-told2) → let a = entry (before-at (at-of c)) .args in
-    check-hits (a .length) (now (a .sounds)) (now (a .steps)) ≡ ok tt
+    check-hits (a .length) (now (a .sounds)) (now (a .steps)) (now (a .velocities)) ≡ ok tt
 passes c = passed-ok _ (sym (c .enum-told2 .given .1) ∙ c .before .before .check-hits-of .ensures) .1
 
 passed : (c : tie.After-enum-told2) → let a = entry (before-at (at-of c)) .args in
-    Lists-well (a .length) (now (a .sounds)) (now (a .steps))
-passed c = check-exactly _ _ _ .0 (passes c)
+    Lists-well (a .length) (now (a .sounds)) (now (a .steps)) (now (a .velocities))
+passed c = check-exactly _ _ _ _ .0 (passes c)
 
 parts : (c : tie.Else1) → Whole-parts (words c)
 parts c = whole-parts (words c) (is-one c)
@@ -82,7 +82,7 @@ same-length c = search needs
 returns : tie.Need-returns
 returns c =
     rw (c .broken-pad .ensures)
-    (not-saved _ _ _ _ _ (save-broken _ _ _ _ _ (sym (c .before .before .is-whole .ensures) ∙ not-true _ (c .before .if1 .taken))))
+    (not-saved _ _ _ _ _ _ (save-broken _ _ _ _ _ _ (sym (c .before .before .is-whole .ensures) ∙ not-true _ (c .before .if1 .taken))))
 
 place-of-requires : tie.Need-place-of-requires
 place-of-requires c κs = inside _ (is-one (c .before))
@@ -104,7 +104,7 @@ returns-2 c =
     let t = c .before in
     let e = t .before .before .before .before in
     rw (c .already-held .ensures)
-    (not-saved _ _ _ _ _ (save-held _ _ _ _ _ (is-one e) (sym (t .before .before .place-of .ensures) ∙ t .enum-told .given .1)))
+    (not-saved _ _ _ _ _ _ (save-held _ _ _ _ _ _ (is-one e) (sym (t .before .before .place-of .ensures) ∙ t .enum-told .given .1)))
 
 check-hits-of-requires : tie.Need-check-hits-of-requires
 check-hits-of-requires c κs = search needs
@@ -118,7 +118,7 @@ same-length-3 c = search needs
 returns-3 : tie.Need-returns-3
 returns-3 c =
     let k = c .before .before .before .before .before in
-    not-saved _ _ _ _ _ (save-lists _ _ _ _ _ (is-one (before-at k)) (free k)
+    not-saved _ _ _ _ _ _ (save-lists _ _ _ _ _ _ (is-one (before-at k)) (free k)
     (refused-is _ (sym (c .before .x .given .1) ∙ c .before .before .before .check-hits-of .ensures)))
 
 enum-told-2 : tie.Need-enum-told-2
@@ -148,8 +148,8 @@ returns-4 c =
     let t = told l in
     let k = at-of t in
     rw (c .pad-full .ensures)
-    (not-saved _ _ _ _ _
-    (save-bars _ _ _ _ _ (is-one (before-at k)) (free k) (passes t)
+    (not-saved _ _ _ _ _ _
+    (save-bars _ _ _ _ _ _ (is-one (before-at k)) (free k) (passes t)
     (omega (arith, l .before .before .long .ensures, c .before .if2 .taken))))
 
 add-if3 : tie.Need-add-if3
@@ -167,8 +167,8 @@ returns-5 c =
     let t = told l in
     let k = at-of t in
     rw (c .pad-full2 .ensures)
-    (not-saved _ _ _ _ _
-    (save-hits _ _ _ _ _ (is-one (before-at k)) (free k) (passes t)
+    (not-saved _ _ _ _ _ _
+    (save-hits _ _ _ _ _ _ (is-one (before-at k)) (free k) (passes t)
     (omega (arith, l .before .before .long .ensures, c .before .before .if2 .left))
     (omega (arith, l .long2 .ensures, c .before .if3 .taken))))
 
@@ -197,10 +197,11 @@ put-bar-requires c κs =
     let one = l .before .before .long .ensures in
     let two = l .long2 .ensures in
     record {
-      order = omega (arith, one, two, save-offset (words e) (a .id) (a .length) (now (a .sounds)) (now (a .steps)) (is-one e) (free k));
+      order = omega (arith, one, two, save-offset (words e) (a .id) (a .length) (now (a .sounds)) (now (a .steps)) (now (a .velocities)) (is-one e) (free k));
       room = omega (arith, o, one, two, f .before .if2 .left, f .if3 .left);
       words = o .words;
-      side-by-side = p .side-by-side;
+      as-many-steps = p .side-by-side .as-many-steps;
+      as-many-velocities = p .side-by-side .as-many-velocities;
     }
 
 add-pad : tie.Need-add-pad
@@ -236,9 +237,9 @@ returns-6 c =
     let two = l .long2 .ensures in
     let h : getD (words e) 0 0 < 256 = omega (arith, one, f .before .if2 .left) in
     let m : getD (words e) 1 0 + length (now (a .sounds)) ≤ 8192 = omega (arith, two, f .if3 .left) in
-    was-saved (words e) (a .id) (a .length) (now (a .sounds)) (now (a .steps)) (is-one e) _ _
-    (save-fine (words e) (a .id) (a .length) (now (a .sounds)) (now (a .steps)) (is-one e) (free k) (passes t) h m)
-    (save-stores (words e) (a .id) (a .length) (now (a .sounds)) (now (a .steps)) (is-one e) (free k) (passed t) h m
+    was-saved (words e) (a .id) (a .length) (now (a .sounds)) (now (a .steps)) (now (a .velocities)) (is-one e) _ _
+    (save-fine (words e) (a .id) (a .length) (now (a .sounds)) (now (a .steps)) (now (a .velocities)) (is-one e) (free k) (passes t) h m)
+    (save-stores (words e) (a .id) (a .length) (now (a .sounds)) (now (a .steps)) (now (a .velocities)) (is-one e) (free k) (passed t) h m
     _ _ _ one two (c .before .before .put-bar .ensures))
 
 pub pad-save-spec : {M : Type 1} → statement M
