@@ -4,7 +4,7 @@ use mathlib.Core.Path.{_≡_, refl, sym, ap, _∙_}
 use mathlib.Core.Bool.{Bool, true, false, cond}
 use mathlib.Core.List.{List, [], _∷_}
 use mathlib.Core.Logic.{_⊎_, inl, inr}
-use Prim.Native.Nat.{ℕ, zero, suc, _+_, _-_, _*_, _≤_, _<_}
+use Prim.Native.Nat.{ℕ, zero, suc, _+_, _-_, _*_, _%_, _≤_, _<_}
 use native.Mathlib.Omega.{arith}
 use lib.Dec.{ltb, eqb}
 use lib.ListN.{length, drop, getD, length-map}
@@ -15,10 +15,10 @@ use Rattle.common.proofs.Kept.{kept-fewer}
 use Rattle.common.proofs.One-more.{equal-or-not}
 use Rattle.common.specs.Members.{kept}
 use Rattle.common.specs.Stores.{Stored}
-use Rattle.pad_map.specs.Bars.{Hit, hit}
+use Rattle.pad_map.specs.Bars.{Hit}
 use Rattle.pad_map.specs.Rules.{Comes-before, Hits-rising}
 use Rattle.pad_map.specs.Acts.{of-sound, steps-of}
-use Rattle.pad_words.specs.Words.{hits-of}
+use Rattle.pad_words.specs.Words.{hit-at, hits-of}
 use Rattle.pad_words.proofs.Steps.{hits-many, hits-step, hits-end}
 use Rattle.pad_lists.specs.Steps.{lower, leading}
 
@@ -155,12 +155,12 @@ module _ (s : ℕ) (ws : List ℕ) (at count : ℕ) where
   run-short t = omega (arith, t .past, leading-few s (hits-of count (drop at ws)), hits-many count (drop at ws))
 
   module _ (i : ℕ) where
-    pub run-next : i < count → getD ws at 0 ≡ s
+    pub run-next : i < count → getD ws at 0 % 256 ≡ s
         → leading s (hits-of (count - i) (drop at ws)) ≡ getD ws (at + 1) 0 ∷ leading s (hits-of (count - (i + 1)) (drop (at + 2) ws))
-    run-next h e = rw (hits-step ws at count i h) (leading-here s (hit (getD ws at 0) (getD ws (at + 1) 0)) _ e)
+    run-next h e = rw (hits-step ws at count i h) (leading-here s (hit-at (getD ws at 0) (getD ws (at + 1) 0)) _ e)
 
-    pub run-stop : i < count → (getD ws at 0 ≡ s → ⊥) → leading s (hits-of (count - i) (drop at ws)) ≡ []
-    run-stop h n = rw (hits-step ws at count i h) (leading-none s (hit (getD ws at 0) (getD ws (at + 1) 0)) _ n)
+    pub run-stop : i < count → (getD ws at 0 % 256 ≡ s → ⊥) → leading s (hits-of (count - i) (drop at ws)) ≡ []
+    run-stop h n = rw (hits-step ws at count i h) (leading-none s (hit-at (getD ws at 0) (getD ws (at + 1) 0)) _ n)
 
     pub run-end : count ≤ i → leading s (hits-of (count - i) (drop at ws)) ≡ []
     unfolding leading
