@@ -29,17 +29,17 @@ module _ (pad : List ℕ) (bars : List Bar) (h : held-bars pad ≡ ok bars) wher
   unfolding held-bars
   holds-these = let c = check-gives (whole pad) broken-pad _ h in (c .0, ok-same (c .1))
 
-  pub save-by-map : (id len : ℕ) (ss ts : List ℕ) → pad-save pad id len ss ts ≡ save bars id len ss ts
+  pub save-by-map : (id len : ℕ) (ss ts vs : List ℕ) → pad-save pad id len ss ts vs ≡ save bars id len ss ts vs
   unfolding pad-save
-  save-by-map id len ss ts = rw h
+  save-by-map id len ss ts vs = rw h
 
   pub erase-by-map : (id : ℕ) → pad-erase pad id ≡ erase bars id
   unfolding pad-erase
   erase-by-map id = rw h
 
-  pub read-by-map : (id sr tr : ℕ) → pad-read pad id sr tr ≡ read bars id sr tr
+  pub read-by-map : (id sr tr vr : ℕ) → pad-read pad id sr tr vr ≡ read bars id sr tr vr
   unfolding pad-read
-  read-by-map id sr tr = rw h
+  read-by-map id sr tr vr = rw h
 
   pub write-by-map : (text ends : List ℕ) (room : ℕ) → pad-write pad text ends room ≡ write-out bars text ends room
   unfolding pad-write
@@ -51,11 +51,11 @@ module _ (pad : List ℕ) (bars : List Bar) (h : held-bars pad ≡ ok bars) wher
 
   -- ---- the map afterwards
 
-  saved-holds : (id len : ℕ) (ss ts : List ℕ) {r : Counted} {pad′ : List ℕ} → Bar-saved pad id len ss ts r pad′ → (told : Result (List Bar))
-      → save bars id len ss ts ≡ told → held-bars pad′ ≡ ok (saved-map told bars)
-  saved-holds id len ss ts p (ok after) e = p .map after (save-by-map id len ss ts ∙ e)
-  saved-holds id len ss ts p (refuse x) e =
-      ap held-bars (p .words ∙ ap (λ q. saved-words q pad) (save-by-map id len ss ts ∙ e)) ∙ h
+  saved-holds : (id len : ℕ) (ss ts vs : List ℕ) {r : Counted} {pad′ : List ℕ} → Bar-saved pad id len ss ts vs r pad′ → (told : Result (List Bar))
+      → save bars id len ss ts vs ≡ told → held-bars pad′ ≡ ok (saved-map told bars)
+  saved-holds id len ss ts vs p (ok after) e = p .map after (save-by-map id len ss ts vs ∙ e)
+  saved-holds id len ss ts vs p (refuse x) e =
+      ap held-bars (p .words ∙ ap (λ q. saved-words q pad) (save-by-map id len ss ts vs ∙ e)) ∙ h
 
   erased-holds : (id : ℕ) {r : Counted} {pad′ : List ℕ} → Bar-erased pad id r pad′ → (told : Result Bar)
       → erase bars id ≡ told → held-bars pad′ ≡ ok (erased-map id told bars)
@@ -65,18 +65,18 @@ module _ (pad : List ℕ) (bars : List Bar) (h : held-bars pad ≡ ok bars) wher
   -- ---- one call
 
   pub next-holds : (e : Event) (pad′ : List ℕ) → Promised e pad pad′ → held-bars pad′ ≡ ok (map-next e bars)
-  next-holds (Saved id len ss ts r) pad′ p = saved-holds id len ss ts p (save bars id len ss ts) refl
+  next-holds (Saved id len ss ts vs r) pad′ p = saved-holds id len ss ts vs p (save bars id len ss ts vs) refl
   next-holds (Erased id r) pad′ p = erased-holds id p (erase bars id) refl
-  next-holds (Read id ss ts r ss′ ts′) pad′ (p, same) = ap held-bars same ∙ h
+  next-holds (Read id ss ts vs r ss′ ts′ vs′) pad′ (p, same) = ap held-bars same ∙ h
   next-holds (Written-out text ends out r out′) pad′ (p, same) = ap held-bars same ∙ h
   next-holds (Shown n) pad′ (p, same) = ap held-bars same ∙ h
 
   pub answered : (e : Event) (pad′ : List ℕ) → Promised e pad pad′ → Map-answered e bars
-  answered (Saved id len ss ts r) pad′ p = p .reply ∙ ap (save-answer (length ss)) (save-by-map id len ss ts)
+  answered (Saved id len ss ts vs r) pad′ p = p .reply ∙ ap (save-answer (length ss)) (save-by-map id len ss ts vs)
   answered (Erased id r) pad′ p = p .reply ∙ ap erase-answer (erase-by-map id)
-  answered (Read id ss ts r ss′ ts′) pad′ (p, same) =
-      let is = read-by-map id (length ss) (length ts) in
-      (rw is at (p .reply), rw is at (p .sounds-left), rw is at (p .steps-left))
+  answered (Read id ss ts vs r ss′ ts′ vs′) pad′ (p, same) =
+      let is = read-by-map id (length ss) (length ts) (length vs) in
+      (rw is at (p .reply), rw is at (p .sounds-left), rw is at (p .steps-left), rw is at (p .velocities-left))
   answered (Written-out text ends out r out′) pad′ (p, same) =
       let is = write-by-map text ends (length out) in
       (rw is at (p .reply), rw is at (p .left))

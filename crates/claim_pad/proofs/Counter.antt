@@ -6,16 +6,15 @@ use mathlib.Core.Option.{Option, none, some}
 use Prim.Native.Nat.{ℕ, _+_}
 use native.Mathlib.Omega.{arith}
 use lib.ListN.{length}
-use Rattle.common.proofs.Pairs.{paired-count}
 use Rattle.segment.specs.Results.{Result, ok, refuse}
 use Rattle.segment.specs.declared.refusal.Refusal.{Refusal}
 use Rattle.segment.specs.declared.replies.Counted.the-variants as counted
 use Rattle.segment.proofs.Binds.{refuse-ok}
 use Rattle.calls.specs.Replies.{length-of-written, filled}
-use Rattle.pad_map.specs.Bars.{Bar, hit, bar, hits-in, lookup, hits-in-all}
+use Rattle.pad_map.specs.Bars.{Bar, bar, hits-in, lookup, hits-in-all}
 use Rattle.pad_map.specs.Acts.{found}
 use Rattle.pad_map.proofs.Mapped.{insert-counts}
-use Rattle.pad_map.proofs.Saved.{save-gives}
+use Rattle.pad_map.proofs.Saved.{hits-count, save-gives}
 use Rattle.pad_map.proofs.Room.{room-given-back}
 use Rattle.pad_words.specs.Words.{held}
 use Rattle.pad_words.specs.Whole.{Whole}
@@ -23,7 +22,7 @@ use Rattle.pad_words.specs.Calls.{pad-save, pad-erase, saved-words, erased-word
 use Rattle.pad_words.proofs.Wholes.{total-is}
 use Rattle.pad_words.proofs.Exactly.{whole-exactly}
 use Rattle.pad_read.specs.Counter.{pad-hits}
-use Rattle.pad_read.specs.Promise.{read-answer, bar-sounds, bar-steps}
+use Rattle.pad_read.specs.Promise.{read-answer, bar-sounds, bar-steps, bar-velocities}
 use Rattle.pad_record.specs.Promise.{save-answer, erase-answer}
 use Rattle.claim_pad.specs.Counter.{Shows-the-sum, Shows-from-empty, Saving-adds, Erasing-takes-off, Refusals-leave, Wrong-total}
 use Rattle.claim_pad.proofs.Acting.{holds-these, erase-by-map, shown, acts-as-map, from-empty}
@@ -45,16 +44,16 @@ shows-from-empty es pad pad′ empty run =
 -- ---- one call
 
 pub saving-adds : Saving-adds
-saving-adds pad id len ss ts n pad′ p =
-    let (after, e) = save-accepted (length ss) (pad-save pad id len ss ts) (p .reply) in
-    let (bars, h, k) = pad-save-gives pad id len ss ts after e in
-    let a = save-gives bars id len ss ts after k in
-    let many : length (hits-in ss ts) ≡ length ss = paired-count hit ss ts (a .lists .side-by-side) in
+saving-adds pad id len ss ts vs n pad′ p =
+    let (after, e) = save-accepted (length ss) (pad-save pad id len ss ts vs) (p .reply) in
+    let (bars, h, k) = pad-save-gives pad id len ss ts vs after e in
+    let a = save-gives bars id len ss ts vs after k in
+    let many : length (hits-in ss ts vs) ≡ length ss = hits-count ss ts vs (a .lists .side-by-side) in
     let told : counted.Count n ≡ counted.Count (length ss) = rw e at (p .reply) in
     let same : n ≡ length ss = cc in
     let before = shown pad bars h in
-    let now : pad-hits pad′ ≡ length (hits-in ss ts) + hits-in-all bars =
-    shown pad′ after (p .map after e) ∙ ap hits-in-all (a .is) ∙ insert-counts (bar id len (hits-in ss ts)) bars .1 in
+    let now : pad-hits pad′ ≡ length (hits-in ss ts vs) + hits-in-all bars =
+    shown pad′ after (p .map after e) ∙ ap hits-in-all (a .is) ∙ insert-counts (bar id len (hits-in ss ts vs)) bars .1 in
     omega (arith, many, same, before, now)
 
 -- a bar that was found is the one under its id
@@ -88,7 +87,7 @@ erase-refused id (refuse y) x pad e = refl
 
 pub refusals-leave : Refusals-leave
 refusals-leave pad pad′ x = record {
-  saving = λ id len ss ts p. ap pad-hits (p .words ∙ save-refused (length ss) (pad-save pad id len ss ts) x pad (p .reply));
+  saving = λ id len ss ts vs p. ap pad-hits (p .words ∙ save-refused (length ss) (pad-save pad id len ss ts vs) x pad (p .reply));
   erasing = λ id p. ap pad-hits (p .words ∙ erase-refused id (pad-erase pad id) x pad (p .reply));
 }
 
@@ -99,17 +98,18 @@ wrong-total pad differs =
     let b = broken-exactly pad in
     let no-pad : Whole pad → ⊥ = λ w. differs (sym (w .total)) in
     record {
-      save = λ id len ss ts r pad′ p.
-          let e = b .save id len ss ts .1 no-pad in
+      save = λ id len ss ts vs r pad′ p.
+          let e = b .save id len ss ts vs .1 no-pad in
           (p .reply ∙ ap (save-answer (length ss)) e, p .words ∙ ap (λ q. saved-words q pad) e);
       erase = λ id r pad′ p.
           let e = b .erase id .1 no-pad in
           (p .reply ∙ ap erase-answer e, p .words ∙ ap (λ q. erased-words id q pad) e);
-      read = λ id ss ts r ss′ ts′ p.
-          let e = b .read id (length ss) (length ts) .1 no-pad in
+      read = λ id ss ts vs r ss′ ts′ vs′ p.
+          let e = b .read id (length ss) (length ts) (length vs) .1 no-pad in
           let sounds = p .sounds-left ∙ ap (λ q. filled bar-sounds q ss) e in
           let steps = p .steps-left ∙ ap (λ q. filled bar-steps q ts) e in
-          (p .reply ∙ ap read-answer e, sounds, steps);
+          let velocities = p .velocities-left ∙ ap (λ q. filled bar-velocities q vs) e in
+          (p .reply ∙ ap read-answer e, sounds, steps, velocities);
       write = λ text ends out r out′ p.
           let e = b .write text ends (length out) .1 no-pad in
           (p .reply ∙ ap length-of-written e, p .left ∙ ap (λ q. filled (λ xs. xs) q out) e);

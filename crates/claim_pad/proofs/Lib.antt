@@ -1,6 +1,7 @@
 -- Laws that belong to no one function, lowest first.
 pub mod Acting
 pub mod Back
+pub mod Alike
 pub mod Listed
 pub mod Fine
 pub mod Named

@@ -12,7 +12,7 @@ use borrow.Author.Tests.{leb-true, le-leb, eqb-true}
 use Rattle.common.proofs.Loops.{true-false, and-left, and-right}
 use Rattle.utf8.specs.Utf8.{utf8}
 use Rattle.segment.specs.Directory.{follows}
-use Rattle.segment.specs.Refusals.{invalid-layout, invalid-utf8, list-shape, too-large, no-room, unknown-bar, already-held, pad-full}
+use Rattle.segment.specs.Refusals.{invalid-layout, invalid-utf8, list-shape, too-large, no-room, unknown-bar, already-held, pad-full, velocity-range}
 use Rattle.segment.specs.Refusals.{broken-pad, empty-term, terms-not-increasing, positions-not-increasing, written-position-exceeds-length}
 use Rattle.segment.specs.Results.{Result, ok, refuse, _>>=_, check}
 use Rattle.segment.specs.Texts.{ends-fit, names}
@@ -24,8 +24,9 @@ use Rattle.calls.specs.Checks.{check-name, check-lists}
 use Rattle.calls.specs.Writing.{write}
 use Rattle.calls.proofs.Sizes.{segment-length}
 use Rattle.pad_map.specs.Bars.{Bar, lookup, hits-in-all}
-use Rattle.pad_map.specs.Rules.{all-up-to, hits-rise, all-below, check-hits}
+use Rattle.pad_map.specs.Rules.{all-up-to, all-audible, hits-rise, all-below, check-hits}
 use Rattle.pad_map.specs.Acts.{is-some, save, found, erase, read, write-out}
+use Rattle.pad_map.proofs.Saved.{small-test, even-test}
 use Rattle.pad_words.specs.Words.{held}
 use Rattle.pad_words.specs.Whole.{Whole, whole}
 use Rattle.pad_words.specs.Calls.{held-bars, pad-save, pad-erase, pad-read, pad-write}
@@ -63,17 +64,18 @@ module _ (kind : ℕ) where
   never-then true x f h g = g refl
   never-then false x f h g = never-refuse x (λ is. true-false (sym (h is)))
 
-  -- ---- the lists of a bar, and names: kinds up to 12
+  -- ---- the lists of a bar, 22 apart, and names: kinds up to 12
 
   module _ (high : 13 ≤ kind) where
-    hits-never : (len : ℕ) (ss ts : List ℕ) → Never (check-hits len ss ts)
+    hits-never : (22 ≡ kind → ⊥) → (len : ℕ) (ss ts vs : List ℕ) → Never (check-hits len ss ts vs)
     unfolding check-hits
-    hits-never len ss ts =
-        never-then (leb (length ss) 16777216 && leb (length ts) 16777216) too-large _ (λ e. absurd (omega arith)) (λ _.
-        never-then (eqb (length ss) (length ts)) list-shape _ (λ e. absurd (omega arith)) (λ _.
+    hits-never apart len ss ts vs =
+        never-then (small-test ss ts vs) too-large _ (λ e. absurd (omega arith)) (λ _.
+        never-then (even-test ss ts vs) list-shape _ (λ e. absurd (omega arith)) (λ _.
         never-then (all-up-to 127 ss) too-large _ (λ e. absurd (omega arith)) (λ _.
+        never-then (all-audible vs) velocity-range _ (λ e. absurd (apart e)) (λ _.
         never-then (hits-rise none ss ts) (invalid-layout positions-not-increasing) _ (λ e. absurd (omega arith)) (λ _.
-        never-check (all-below len ts) (invalid-layout written-position-exceeds-length) (λ e. omega arith)))))
+        never-check (all-below len ts) (invalid-layout written-position-exceeds-length) (λ e. omega arith))))))
 
     name-never : (previous : Option (List ℕ)) (n : List ℕ) → Never (check-name previous n)
     unfolding check-name
@@ -113,20 +115,21 @@ found-never : (o : Option Bar) → Never 20 (found o)
 found-never none = never-refuse 20 unknown-bar (λ e. omega arith)
 found-never (some b) = never-ok 20 b
 
-save-never : (bars : List Bar) (id len : ℕ) (ss ts : List ℕ) → Never 20 (save bars id len ss ts)
+save-never : (bars : List Bar) (id len : ℕ) (ss ts vs : List ℕ) → Never 20 (save bars id len ss ts vs)
 unfolding save
-save-never bars id len ss ts =
+save-never bars id len ss ts vs =
     never-then 20 (not (is-some (lookup bars id))) already-held _ (λ e. absurd (omega arith)) (λ _.
-    never-bind 20 (check-hits len ss ts) _ (hits-never 20 (omega arith) len ss ts) (λ u.
+    never-bind 20 (check-hits len ss ts vs) _ (hits-never 20 (omega arith) (λ e. omega arith) len ss ts vs) (λ u.
     never-then 20 (ltb (length bars) 256 && leb (hits-in-all bars + length ss) 8192) pad-full _ (λ e. absurd (omega arith)) (λ _.
     never-ok 20 _)))
 
-read-never : (bars : List Bar) (id room room₂ : ℕ) → Never 20 (read bars id room room₂)
+read-never : (bars : List Bar) (id room room₂ room₃ : ℕ) → Never 20 (read bars id room room₂ room₃)
 unfolding read
-read-never bars id room room₂ =
+read-never bars id room room₂ room₃ =
     never-bind 20 (found (lookup bars id)) _ (found-never (lookup bars id)) (λ b.
     never-then 20 (leb (length (b .hits)) room) (no-room 1 (length (b .hits))) _ (λ e. absurd (omega arith)) (λ _.
-    never-then 20 (leb (length (b .hits)) room₂) (no-room 2 (length (b .hits))) _ (λ e. absurd (omega arith)) (λ _. never-ok 20 b)))
+    never-then 20 (leb (length (b .hits)) room₂) (no-room 2 (length (b .hits))) _ (λ e. absurd (omega arith)) (λ _.
+    never-then 20 (leb (length (b .hits)) room₃) (no-room 3 (length (b .hits))) _ (λ e. absurd (omega arith)) (λ _. never-ok 20 b))))
 
 -- words that are no pad hold no map
 broken : (pad : List ℕ) → (Whole pad → ⊥) → held-bars pad ≡ refuse broken-pad
@@ -156,16 +159,16 @@ other-whole {A} pad f {x} h e = step (whole pad) refl
 pub broken-exactly : Broken-exactly
 unfolding pad-save pad-erase pad-read pad-write
 broken-exactly pad = record {
-  save = λ id len ss ts. (
-    λ e w. save-never (held pad) id len ss ts .other broken-pad (sym (save-by-map pad (held pad) (own pad w) id len ss ts) ∙ e) refl,
+  save = λ id len ss ts vs. (
+    λ e w. save-never (held pad) id len ss ts vs .other broken-pad (sym (save-by-map pad (held pad) (own pad w) id len ss ts vs) ∙ e) refl,
     λ un. rw (broken pad un),
   );
   erase = λ id. (
     λ e w. found-never (lookup (held pad) id) .other broken-pad (sym (erase-by-map pad (held pad) (own pad w) id) ∙ e) refl,
     λ un. rw (broken pad un),
   );
-  read = λ id m n. (
-    λ e w. read-never (held pad) id m n .other broken-pad (sym (read-by-map pad (held pad) (own pad w) id m n) ∙ e) refl,
+  read = λ id m n o. (
+    λ e w. read-never (held pad) id m n o .other broken-pad (sym (read-by-map pad (held pad) (own pad w) id m n o) ∙ e) refl,
     λ un. rw (broken pad un),
   );
   write = λ text ends room. (
@@ -178,28 +181,28 @@ broken-exactly pad = record {
 
 -- ---- 18
 
-free-never : (bars : List Bar) (id len : ℕ) (ss ts : List ℕ) → lookup bars id ≡ none → Never 18 (save bars id len ss ts)
+free-never : (bars : List Bar) (id len : ℕ) (ss ts vs : List ℕ) → lookup bars id ≡ none → Never 18 (save bars id len ss ts vs)
 unfolding save
-free-never bars id len ss ts free =
+free-never bars id len ss ts vs free =
     rw free
-    (never-bind 18 (check-hits len ss ts) _ (hits-never 18 (omega arith) len ss ts) (λ u.
+    (never-bind 18 (check-hits len ss ts vs) _ (hits-never 18 (omega arith) (λ e. omega arith) len ss ts vs) (λ u.
     never-then 18 (ltb (length bars) 256 && leb (hits-in-all bars + length ss) 8192) pad-full _ (λ e. absurd (omega arith)) (λ _.
     never-ok 18 _)))
 
-taken : (bars : List Bar) (id len : ℕ) (ss ts : List ℕ) (o : Option Bar) → lookup bars id ≡ o → (o ≡ none → ⊥)
-    → save bars id len ss ts ≡ refuse already-held
+taken : (bars : List Bar) (id len : ℕ) (ss ts vs : List ℕ) (o : Option Bar) → lookup bars id ≡ o → (o ≡ none → ⊥)
+    → save bars id len ss ts vs ≡ refuse already-held
 unfolding save
-taken bars id len ss ts none e h = absurd (h refl)
-taken bars id len ss ts (some b) e h = rw e
+taken bars id len ss ts vs none e h = absurd (h refl)
+taken bars id len ss ts vs (some b) e h = rw e
 
 pub held-exactly : Held-exactly
 unfolding pad-save
-held-exactly pad id len ss ts = (
+held-exactly pad id len ss ts vs = (
   λ e.
       let w = other-whole pad _ (λ k. omega arith) e in
-      let is = save-by-map pad (held pad) (own pad w) id len ss ts in
-      (w, λ free. free-never (held pad) id len ss ts free .other already-held (sym is ∙ e) refl),
-  λ (w, h). save-by-map pad (held pad) (own pad w) id len ss ts ∙ taken (held pad) id len ss ts (lookup (held pad) id) refl h,
+      let is = save-by-map pad (held pad) (own pad w) id len ss ts vs in
+      (w, λ free. free-never (held pad) id len ss ts vs free .other already-held (sym is ∙ e) refl),
+  λ (w, h). save-by-map pad (held pad) (own pad w) id len ss ts vs ∙ taken (held pad) id len ss ts vs (lookup (held pad) id) refl h,
 )
 
 -- ---- 13

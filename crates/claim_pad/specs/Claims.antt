@@ -21,6 +21,7 @@ use Rattle.claim_joint.specs.Own.{own}
 use Rattle.claim_joint.specs.Demand.{Those-that-meet, Proper-text}
 use Rattle.pad_map.specs.Bars.{Bar}
 use Rattle.pad_map.specs.Acts.{terms-of}
+use Rattle.pad_map.specs.Claims.{Bars-alike}
 use Rattle.pad_words.specs.Words.{held}
 use Rattle.pad_words.specs.Whole.{Whole}
 use Rattle.pad_words.specs.Calls.{pad-write}
@@ -59,6 +60,13 @@ abbrev pub Only-names : Type 0
 Only-names =
     (pad text ends : List ℕ) → Whole pad → Names-shaped text ends
     → Lists-fine (map-lists pad text ends) ↔ Names-fine (names 0 ends text) (held pad)
+
+-- pads that differ in velocities alone are written alike: the same promise, refusals too, for any names and any room
+abbrev pub Written-alike : Type 0
+Written-alike =
+    (pad other : List ℕ) → Whole pad → Whole other → Bars-alike (held pad) (held other) → (text ends out : List ℕ) (r : Written)
+    (out′ : List ℕ)
+    → Pad-written pad text ends out r out′ ↔ Pad-written other text ends out r out′
 
 -- written exactly where no refusal is named
 abbrev pub Written-exactly : Type 0

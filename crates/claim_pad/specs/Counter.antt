@@ -40,14 +40,14 @@ Shows-from-empty = (events : List Event) (pad pad′ : List ℕ) → Empty pad �
 -- the words are
 
 abbrev pub Saving-adds : Type 0
-Saving-adds = (pad : List ℕ) (id len : ℕ) (sounds steps : List ℕ) (n : ℕ) (pad′ : List ℕ)
-    → Bar-saved pad id len sounds steps (counted.Count n) pad′ → pad-hits pad′ ≡ pad-hits pad + n
+Saving-adds = (pad : List ℕ) (id len : ℕ) (sounds steps velocities : List ℕ) (n : ℕ) (pad′ : List ℕ)
+    → Bar-saved pad id len sounds steps velocities (counted.Count n) pad′ → pad-hits pad′ ≡ pad-hits pad + n
 
 abbrev pub Erasing-takes-off : Type 0
 Erasing-takes-off = (pad : List ℕ) (id n : ℕ) (pad′ : List ℕ) → Bar-erased pad id (counted.Count n) pad′ → pad-hits pad ≡ pad-hits pad′ + n
 
 pub record Left-by-refusals (pad pad′ : List ℕ) (x : Refusal) : Type 0 where
-  pub saving : (id len : ℕ) (sounds steps : List ℕ) → Bar-saved pad id len sounds steps (counted.Refused x) pad′
+  pub saving : (id len : ℕ) (sounds steps velocities : List ℕ) → Bar-saved pad id len sounds steps velocities (counted.Refused x) pad′
       → pad-hits pad′ ≡ pad-hits pad
   pub erasing : (id : ℕ) → Bar-erased pad id (counted.Refused x) pad′ → pad-hits pad′ ≡ pad-hits pad
 
@@ -57,12 +57,12 @@ Refusals-leave = (pad pad′ : List ℕ) (x : Refusal) → Left-by-refusals pad 
 -- ---- a stored number that is not the sum: 20 in each of the other calls, whatever else is handed in, and every lent place stays
 
 pub record All-broken (pad : List ℕ) : Type 0 where
-  pub save : (id len : ℕ) (sounds steps : List ℕ) (r : Counted) (pad′ : List ℕ)
-      → Bar-saved pad id len sounds steps r pad′ → (r ≡ counted.Refused broken-pad) × (pad′ ≡ pad)
+  pub save : (id len : ℕ) (sounds steps velocities : List ℕ) (r : Counted) (pad′ : List ℕ)
+      → Bar-saved pad id len sounds steps velocities r pad′ → (r ≡ counted.Refused broken-pad) × (pad′ ≡ pad)
   pub erase : (id : ℕ) (r : Counted) (pad′ : List ℕ) → Bar-erased pad id r pad′ → (r ≡ counted.Refused broken-pad) × (pad′ ≡ pad)
-  pub read : (id : ℕ) (sounds steps : List ℕ) (r : BarRead) (sounds′ steps′ : List ℕ)
-      → Bar-read-back pad id sounds steps r sounds′ steps′
-      → (r ≡ back.Refused broken-pad) × (sounds′ ≡ sounds) × (steps′ ≡ steps)
+  pub read : (id : ℕ) (sounds steps velocities : List ℕ) (r : BarRead) (sounds′ steps′ velocities′ : List ℕ)
+      → Bar-read-back pad id sounds steps velocities r sounds′ steps′ velocities′
+      → (r ≡ back.Refused broken-pad) × (sounds′ ≡ sounds) × (steps′ ≡ steps) × (velocities′ ≡ velocities)
   pub write : (text ends out : List ℕ) (r : Written) (out′ : List ℕ)
       → Pad-written pad text ends out r out′ → (r ≡ written.Refused broken-pad) × (out′ ≡ out)
 

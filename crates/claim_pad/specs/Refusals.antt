@@ -15,9 +15,11 @@ use Rattle.claim_pad.specs.Claims.{most-bytes}
 
 -- whatever else is handed in, each call but the counter answers 20 exactly where the words are no pad: the map's own refusals are others
 pub record Tells-broken (pad : List ℕ) : Type 0 where
-  pub save : (id len : ℕ) (sounds steps : List ℕ) → (pad-save pad id len sounds steps ≡ refuse broken-pad) ↔ (Whole pad → ⊥)
+  pub save : (id len : ℕ) (sounds steps velocities : List ℕ)
+      → (pad-save pad id len sounds steps velocities ≡ refuse broken-pad) ↔ (Whole pad → ⊥)
   pub erase : (id : ℕ) → (pad-erase pad id ≡ refuse broken-pad) ↔ (Whole pad → ⊥)
-  pub read : (id sounds-room steps-room : ℕ) → (pad-read pad id sounds-room steps-room ≡ refuse broken-pad) ↔ (Whole pad → ⊥)
+  pub read : (id sounds-room steps-room velocities-room : ℕ)
+      → (pad-read pad id sounds-room steps-room velocities-room ≡ refuse broken-pad) ↔ (Whole pad → ⊥)
   pub write : (text ends : List ℕ) (room : ℕ) → (pad-write pad text ends room ≡ refuse broken-pad) ↔ (Whole pad → ⊥)
 
 abbrev pub Broken-exactly : Type 0
@@ -26,8 +28,8 @@ Broken-exactly = (pad : List ℕ) → Tells-broken pad
 -- saving answers 18 exactly where a pad holds a bar under the id, whatever the bar's lists
 abbrev pub Held-exactly : Type 0
 Held-exactly =
-    (pad : List ℕ) (id len : ℕ) (sounds steps : List ℕ)
-    → (pad-save pad id len sounds steps ≡ refuse already-held) ↔ (Whole pad × (lookup (held pad) id ≡ none → ⊥))
+    (pad : List ℕ) (id len : ℕ) (sounds steps velocities : List ℕ)
+    → (pad-save pad id len sounds steps velocities ≡ refuse already-held) ↔ (Whole pad × (lookup (held pad) id ≡ none → ⊥))
 
 -- a slice of so many places is never too short, whatever the pad and the names
 abbrev pub Never-short : Type 0

@@ -1,4 +1,4 @@
--- Document 02, wishes 6 and 7: a pad acts as a plain map, the one that it holds. From any pad, be it all zeros, read from where it was
+-- Document 02, wishes 6, 7 and 9: a pad acts as a plain map, the one that it holds. From any pad, be it all zeros, read from where it was
 -- stored, or one from which all was erased, after any calls, of any number, refused ones among them, every answer was the map's, and the
 -- words are a pad again, which holds the map after the same calls.
 use Prim.Native.Nat.{ℕ}
@@ -16,25 +16,25 @@ use Rattle.pad_words.specs.Words.{held}
 use Rattle.pad_words.specs.Whole.{Whole}
 use Rattle.pad_words.specs.Claims.{Empty}
 use Rattle.pad_read.specs.Counter.{pad-hits}
-use Rattle.pad_read.specs.Promise.{read-answer, bar-sounds, bar-steps, Bar-read-back}
+use Rattle.pad_read.specs.Promise.{read-answer, bar-sounds, bar-steps, bar-velocities, Bar-read-back}
 use Rattle.pad_record.specs.Promise.{save-answer, erase-answer, Bar-saved, Bar-erased}
 use Rattle.pad_write.specs.Promise.{Pad-written}
 
 -- ---- what was called, and what the caller then saw: the reply, and the lent lists afterwards
 
 pub data Event : Type 0 where
-  Saved : (id len : ℕ) (sounds steps : List ℕ) → Counted → Event
+  Saved : (id len : ℕ) (sounds steps velocities : List ℕ) → Counted → Event
   Erased : (id : ℕ) → Counted → Event
-  Read : (id : ℕ) (sounds steps : List ℕ) → BarRead → (sounds′ steps′ : List ℕ) → Event
+  Read : (id : ℕ) (sounds steps velocities : List ℕ) → BarRead → (sounds′ steps′ velocities′ : List ℕ) → Event
   Written-out : (text ends out : List ℕ) → Written → (out′ : List ℕ) → Event
   Shown : (hits : ℕ) → Event
 
 -- each call keeps its promise on the words that the one before left; reading, writing out and the counter take the pad as a shared slice
 -- (`&[u32]`), through which nothing can be changed, so that their promises need not say that the words stay: here it is said
 abbrev pub Promised : Event → (pad pad′ : List ℕ) → Type 0
-Promised (Saved id len ss ts r) pad pad′ = Bar-saved pad id len ss ts r pad′
+Promised (Saved id len ss ts vs r) pad pad′ = Bar-saved pad id len ss ts vs r pad′
 Promised (Erased id r) pad pad′ = Bar-erased pad id r pad′
-Promised (Read id ss ts r ss′ ts′) pad pad′ = Bar-read-back pad id ss ts r ss′ ts′ × (pad′ ≡ pad)
+Promised (Read id ss ts vs r ss′ ts′ vs′) pad pad′ = Bar-read-back pad id ss ts vs r ss′ ts′ vs′ × (pad′ ≡ pad)
 Promised (Written-out text ends out r out′) pad pad′ = Pad-written pad text ends out r out′ × (pad′ ≡ pad)
 Promised (Shown n) pad pad′ = (n ≡ pad-hits pad) × (pad′ ≡ pad)
 
@@ -54,9 +54,9 @@ erased-map id (ok b) bars = without id bars
 erased-map id (refuse x) bars = bars
 
 abbrev pub map-next : Event → List Bar → List Bar
-map-next (Saved id len ss ts r) bars = saved-map (save bars id len ss ts) bars
+map-next (Saved id len ss ts vs r) bars = saved-map (save bars id len ss ts vs) bars
 map-next (Erased id r) bars = erased-map id (erase bars id) bars
-map-next (Read id ss ts r ss′ ts′) bars = bars
+map-next (Read id ss ts vs r ss′ ts′ vs′) bars = bars
 map-next (Written-out text ends out r out′) bars = bars
 map-next (Shown n) bars = bars
 
@@ -66,11 +66,14 @@ map-after (e ∷ es) bars = map-after es (map-next e bars)
 
 -- what the caller saw is what the map answers
 abbrev pub Map-answered : Event → List Bar → Type 0
-Map-answered (Saved id len ss ts r) bars = r ≡ save-answer (length ss) (save bars id len ss ts)
+Map-answered (Saved id len ss ts vs r) bars = r ≡ save-answer (length ss) (save bars id len ss ts vs)
 Map-answered (Erased id r) bars = r ≡ erase-answer (erase bars id)
-Map-answered (Read id ss ts r ss′ ts′) bars =
-    let told = read bars id (length ss) (length ts) in
-    (r ≡ read-answer told) × (ss′ ≡ filled bar-sounds told ss) × (ts′ ≡ filled bar-steps told ts)
+Map-answered (Read id ss ts vs r ss′ ts′ vs′) bars =
+    let told = read bars id (length ss) (length ts) (length vs) in
+    (r ≡ read-answer told)
+    × (ss′ ≡ filled bar-sounds told ss)
+    × (ts′ ≡ filled bar-steps told ts)
+    × (vs′ ≡ filled bar-velocities told vs)
 Map-answered (Written-out text ends out r out′) bars =
     let told = write-out bars text ends (length out) in
     (r ≡ length-of-written told) × (out′ ≡ filled (λ xs. xs) told out)

@@ -26,10 +26,12 @@ pub extern "C" fn pstp_pad_save(
     length: u32,
     sounds: &[u8],
     steps: &[u32],
+    velocities: &[u8],
 ) -> Reply
-    ensures { λ r. ⌜ Replied counted-reply (λ a. Bar-saved (was pad) id length (was sounds) (was steps) a (left pad)) r ⌝ }
+    ensures { λ r. ⌜ Replied counted-reply
+        (λ a. Bar-saved (was pad) id length (was sounds) (was steps) (was velocities) a (left pad)) r ⌝ }
 {
-    of_counted(pad_save(pad, id, length, sounds, steps))
+    of_counted(pad_save(pad, id, length, sounds, steps, velocities))
 }
 
 // first: how many hits the bar had; it is no longer held.
@@ -40,12 +42,19 @@ pub extern "C" fn pstp_pad_erase(pad: &mut [u32], id: u32) -> Reply
     of_counted(pad_erase(pad, id))
 }
 
-// first: how many hits the bar has; second: its length; sounds and steps in two buffers, in the order saved.
+// first: how many hits the bar has; second: its length; sounds, steps and velocities in three buffers, in the order saved.
 #[no_mangle]
-pub extern "C" fn pstp_pad_read(pad: &[u32], id: u32, sounds: &mut [u8], steps: &mut [u32]) -> Reply
-    ensures { λ r. ⌜ Replied bar-read-reply (λ a. Bar-read-back (was pad) id (was sounds) (was steps) a (left sounds) (left steps)) r ⌝ }
+pub extern "C" fn pstp_pad_read(
+    pad: &[u32],
+    id: u32,
+    sounds: &mut [u8],
+    steps: &mut [u32],
+    velocities: &mut [u8],
+) -> Reply
+    ensures { λ r. ⌜ Replied bar-read-reply
+        (λ a. Bar-read-back (was pad) id (was sounds) (was steps) (was velocities) a (left sounds) (left steps) (left velocities)) r ⌝ }
 {
-    of_bar_read(pad_read(pad, id, sounds, steps))
+    of_bar_read(pad_read(pad, id, sounds, steps, velocities))
 }
 
 // first: how many hits the bars have together, as stored; never refused.
