@@ -100,7 +100,10 @@ enum {
     PSTP_BROKEN_PAD = 20,   /* the words are no pad ("A pad to record on") */
 
     /* Caused by the ids in lists of the caller's own. */
-    PSTP_IDS_NOT_RISING = 21 /* an id is not above the one before it (index: of the first such id, from 0, so at least 1) */
+    PSTP_IDS_NOT_RISING = 21, /* an id is not above the one before it (index: of the first such id, from 0, so at least 1) */
+
+    /* Caused by the hits that are to be saved on a pad. */
+    PSTP_VELOCITY_RANGE = 22 /* a velocity that is not 1 to 127 */
 };
 
 /* Sections: `which` of kinds 1, 5 and 7. */
@@ -357,7 +360,8 @@ pstp_reply pstp_write_positional_segment_records(pstp_document_length *documents
                                                  const uint32_t *position_counts, size_t position_counts_len, const uint32_t *positions,
                                                  size_t positions_len, uint8_t *out, size_t out_len);
 
-/* Reads a Standard MIDI File 1.0 into the eight lists of pstp_write_positional_segment, which, given room, accepts them.
+/* Reads a Standard MIDI File 1.0 into the eight lists of pstp_write_positional_segment, which, given room, accepts them, and how loud each
+ * hit is into a ninth, which no segment carries.
  * first: number of bars (documents); second: of sounds (terms); third: of postings; fourth: of positions. All 0 for a file without hits.
  *
  *  File          "MThd", length 6, format 0, one track, and the division: ticks to a quarter note, 4 to 32,764, a multiple of 4. Then
@@ -369,6 +373,7 @@ pstp_reply pstp_write_positional_segment_records(pstp_document_length *documents
  *  Sound         "n" and the note as three decimal digits: n000 to n127
  *  Step          the hit's tick, that is all delta times up to it added up, divided by a quarter of the division, rounded down
  *  Bar, position the step divided by 16: quotient and remainder. A phrase does not run over a bar line.
+ *  Equal hits    those of one sound on one step, whatever their channels, ticks and velocities. They count once, and the loudest is kept.
  *
  * What is filled, how many elements it has, and how many are always enough:
  *
@@ -379,23 +384,26 @@ pstp_reply pstp_write_positional_segment_records(pstp_document_length *documents
  *  posting_counts  second      128     for each sound the number of bars that have it
  *  posting_ids     third       n       these bars, increasing, of the first sound, then of the next
  *  position_counts third       n       for each of them the number of its steps that have the sound
- *  positions       fourth      n       these steps, increasing, of the first posting, then of the next; equal hits on a step count once
+ *  positions       fourth      n       these steps, increasing, of the first posting, then of the next
+ *  velocities      fourth      n       side by side with positions: velocities[i] is that of the hit on positions[i], 1 to 127, of equal
+ *                                      hits the greatest
  *
  * n is file_len / 3: a hit takes 3 bytes of the file or more. No file has more than 5,592,396 hits. To lend less: with ids to
- * posting_counts as above and the other three empty, 13/6 has third in its index; with posting_ids and position_counts that long, 13/8 has
- * fourth.
+ * posting_counts as above and the other four empty, 13/6 has third in its index; with posting_ids and position_counts that long, 13/8 has
+ * fourth, which is also what velocities need.
  *
  * Refusals: 12 (over PSTP_LIMIT bytes); 14 with index 0 (header); 14 with index 14 (the track's heading); for each event, in the order of
  * the file, 14 with the offset of its delta time, or 15; where the file ends without an end of track, 14 with file_len, and where a byte
  * follows it, 14 with that byte's offset; 13/1 ids, 13/2 lengths, 13/3 text, 13/4 ends, 13/5 posting_counts, 13/6 posting_ids,
- * 13/7 position_counts, 13/8 positions.
+ * 13/7 position_counts, 13/8 positions, 13/9 velocities.
  * An event is wrong (14) if it is cut short by the file's end; a number has over 4 bytes; a data byte comes where a status must (at the
  * beginning, behind a meta or exclusive event); a data byte or a meta type is above 127; the status is F1 to F6 or F8 to FE; FF 2F is not
  * followed by 00. */
 pstp_reply pstp_midi_bars(const uint8_t *file, size_t file_len, uint32_t *ids, size_t ids_len, uint32_t *lengths, size_t lengths_len,
                           uint8_t *text, size_t text_len, uint32_t *ends, size_t ends_len, uint32_t *posting_counts,
                           size_t posting_counts_len, uint32_t *posting_ids, size_t posting_ids_len, uint32_t *position_counts,
-                          size_t position_counts_len, uint32_t *positions, size_t positions_len);
+                          size_t position_counts_len, uint32_t *positions, size_t positions_len, uint8_t *velocities,
+                          size_t velocities_len);
 
 /* A bar on paper: a sheet of lines of exactly 80 characters, each followed by a line feed. out holds it as UTF-8, without a terminating 0.
  * first: the sheet's length in bytes.
@@ -427,8 +435,9 @@ pstp_reply pstp_length_of(const uint32_t *ids, size_t ids_len, const uint32_t *l
 /* A pad to record on
  *
  * A pad holds bars before they are written as a segment: it is a map from id to bar, of at most 256 bars with 8,192 hits in all. A bar has
- * a length and hits; a hit is a sound, 0 to 127, and a step below the length. Every id and length is allowed, 0 too, and a bar may have no
- * hits. The caller owns the pad, PSTP_PAD_WORDS words, and may copy and store it. All zeros is the empty pad:
+ * a length and hits; a hit is a sound, 0 to 127, a step below the length, and a velocity, 1 to 127, which says how loud it is. Every id and
+ * length is allowed, 0 too, and a bar may have no hits. The caller owns the pad, PSTP_PAD_WORDS words, and may copy and store it. All zeros
+ * is the empty pad:
  *
  *     uint32_t pad[PSTP_PAD_WORDS] = {0};
  *
@@ -440,7 +449,7 @@ pstp_reply pstp_length_of(const uint32_t *ids, size_t ids_len, const uint32_t *l
  *  word 0           the number of bars, at most 256
  *  word 1           the number of their hits, at most 8,192: what pstp_pad_hits returns
  *  from word 2 on   the bars by strictly increasing id, one behind the other. A bar: its id, its length, the number of its hits, then the
- *                   hits by strictly increasing sound, then step. A hit: its sound, its step
+ *                   hits by strictly increasing sound, then step. A hit: its sound + 256 * its velocity, its step
  *  behind the last  free words. They may be anything and no call looks at them. Saving moves the bars of higher id up over them, erasing
  *                   moves these bars down again, and what then lies behind the last bar stays as it was
  *
@@ -449,11 +458,12 @@ pstp_reply pstp_length_of(const uint32_t *ids, size_t ids_len, const uint32_t *l
  *
  *  - another number of words than PSTP_PAD_WORDS, or a word 0 above 256, or a word 1 above 8,192;
  *  - an id that is not above that of the bar before it, such as an id twice;
- *  - a bar with hits that pstp_pad_save refuses: a sound above 127, a hit that is not above the one before it, by sound, then step, or a
- *    step not below the length;
+ *  - a bar with hits that pstp_pad_save refuses: a sound (the first word of a hit % 256) above 127, a velocity (that word / 256) that is
+ *    not 1 to 127, a hit that is not above the one before it, by sound, then step, or a step not below the length;
  *  - a word 1 that is not the sum of the bars' numbers of hits, taken as numbers that do not wrap.
  *
- * From the empty pad no sequence of calls makes such words.
+ * From the empty pad no sequence of calls makes such words. A pad recorded before hits had velocities has 0 for each of them, so it is
+ * refused with 20 if it has hits, and is the same pad as before if it has none.
  */
 #define PSTP_PAD_WORDS 17154 /* 2, and 3 for each of the bars, and 2 for each of the hits */
 #define PSTP_PAD_BARS 256    /* bars of a pad */
@@ -469,20 +479,24 @@ pstp_reply pstp_length_of(const uint32_t *ids, size_t ids_len, const uint32_t *l
 #define PSTP_PAD_BAR_LENGTH 1
 #define PSTP_PAD_BAR_HITS 2
 #define PSTP_PAD_BAR_WORDS 3
-#define PSTP_PAD_HIT_SOUND 0
+#define PSTP_PAD_HIT_SOUND_VELOCITY 0 /* sound + PSTP_PAD_VELOCITY * velocity */
 #define PSTP_PAD_HIT_STEP 1
 #define PSTP_PAD_HIT_WORDS 2
+
+/* In a hit's first word, w: the sound is w % PSTP_PAD_VELOCITY, the velocity w / PSTP_PAD_VELOCITY. */
+#define PSTP_PAD_VELOCITY 256
 
 /* Saves a bar under an id that is not held.
  * first: number of hits.
  *
- *  sounds, steps  the hits, side by side: sounds[i] on steps[i], by strictly increasing sound, then step
+ *  sounds, steps, velocities  the hits, side by side: sounds[i] on steps[i] with velocities[i], by strictly increasing sound, then step
  *
- * Refusals: 20; 18 (the id is held); 12 (a list of over PSTP_LIMIT elements); 11 (the lists differ in length); then, each over all hits
- * before the next, 12 (a sound above 127), 6/20 (a hit that is not above the one before it), 6/21 (a step not below the length); 19 (256
- * bars are held, or held and new hits are over 8,192). */
+ * Refusals: 20; 18 (the id is held); 12 (a list of over PSTP_LIMIT elements); 11 (the three lists are not equally long); then, each over
+ * all hits before the next, 12 (a sound above 127), 22 (a velocity that is not 1 to 127), 6/20 (a hit that is not above the one before it:
+ * one of the same sound and step is not, whatever their velocities), 6/21 (a step not below the length); 19 (256 bars are held, or held
+ * and new hits are over 8,192). */
 pstp_reply pstp_pad_save(uint32_t *pad, size_t pad_len, uint32_t id, uint32_t length, const uint8_t *sounds, size_t sounds_len,
-                         const uint32_t *steps, size_t steps_len);
+                         const uint32_t *steps, size_t steps_len, const uint8_t *velocities, size_t velocities_len);
 
 /* Erases a bar; its room serves the next.
  * first: number of hits that it had.
@@ -490,14 +504,15 @@ pstp_reply pstp_pad_save(uint32_t *pad, size_t pad_len, uint32_t id, uint32_t le
 pstp_reply pstp_pad_erase(uint32_t *pad, size_t pad_len, uint32_t id);
 
 /* Reads a bar back.
- * first: number of hits, each with one element of sounds and of steps, in the order saved; second: the bar's length.
- * Always enough for sounds and steps: 8,192.
- * Refusals: 20; 16 (the id is not held); 13/1 sounds, 13/2 steps. */
+ * first: number of hits, each with one element of sounds, of steps and of velocities, in the order saved; second: the bar's length.
+ * Always enough for sounds, steps and velocities: 8,192 each.
+ * Refusals: 20; 16 (the id is not held); 13/1 sounds, 13/2 steps, 13/3 velocities. */
 pstp_reply pstp_pad_read(const uint32_t *pad, size_t pad_len, uint32_t id, uint8_t *sounds, size_t sounds_len, uint32_t *steps,
-                         size_t steps_len);
+                         size_t steps_len, uint8_t *velocities, size_t velocities_len);
 
 /* Writes the pad out as a segment to the beginning of out: what pstp_write_positional_segment writes for its bars, by increasing id, and
- * its sounds, by increasing number. A sound without hits is left out.
+ * its sounds, by increasing number. A sound without hits is left out, and so are the velocities: neither the bytes nor a refusal depends on
+ * them.
  * first: the segment's length in bytes.
  *
  *  text, ends  the names of the 128 sounds by number, laid out as the names of a question. A name of a sound without hits may be

@@ -90,10 +90,12 @@ int main(void) {
     test_writing();
     test_midi();
     test_midi_events();
+    test_midi_velocity();
     test_midi_limits();
     test_sheet();
     test_lookup();
     test_pad();
+    test_pad_velocity();
     test_pad_broken();
     test_pad_limits();
     test_handles();

@@ -55,14 +55,22 @@ void test_empty(void) {
     expect_reply(note, pstp_open(out.at, 72), accepted(0, 0));
     expect_reply(note, pstp_document_lengths(out.at, 72, NULL, 0, NULL, 0), accepted(0, 0));
     struct bytes one_hit = midi(4, "00 90 24 40 00 FF 2F 00"), no_hit = midi(4, "00 FF 2F 00");
-    expect_reply(note, pstp_midi_bars(NULL, 0, NULL, 0, NULL, 0, NULL, 0, NULL, 0, NULL, 0, NULL, 0, NULL, 0, NULL, 0), refused(14, 0, 0));
-    expect_reply(note, pstp_midi_bars(no_hit.at, no_hit.len, NULL, 0, NULL, 0, NULL, 0, NULL, 0, NULL, 0, NULL, 0, NULL, 0, NULL, 0),
+    expect_reply(note, pstp_midi_bars(NULL, 0, NULL, 0, NULL, 0, NULL, 0, NULL, 0, NULL, 0, NULL, 0, NULL, 0, NULL, 0, NULL, 0),
+                 refused(14, 0, 0));
+    expect_reply(note,
+                 pstp_midi_bars(no_hit.at, no_hit.len, NULL, 0, NULL, 0, NULL, 0, NULL, 0, NULL, 0, NULL, 0, NULL, 0, NULL, 0, NULL, 0),
                  accepted(0, 0));
-    expect_reply(note, pstp_midi_bars(one_hit.at, one_hit.len, NULL, 0, NULL, 0, NULL, 0, NULL, 0, NULL, 0, NULL, 0, NULL, 0, NULL, 0),
+    expect_reply(note,
+                 pstp_midi_bars(one_hit.at, one_hit.len, NULL, 0, NULL, 0, NULL, 0, NULL, 0, NULL, 0, NULL, 0, NULL, 0, NULL, 0, NULL, 0),
                  refused(13, 1, 1));
     expect_reply(note,
-                 pstp_midi_bars(one_hit.at, one_hit.len, x.place, 1, x.place + 1, 1, NULL, 0, NULL, 0, NULL, 0, NULL, 0, NULL, 0, NULL, 0),
+                 pstp_midi_bars(one_hit.at, one_hit.len, x.place, 1, x.place + 1, 1, NULL, 0, NULL, 0, NULL, 0, NULL, 0, NULL, 0, NULL, 0,
+                                NULL, 0),
                  refused(13, 3, 4));
+    expect_reply(note,
+                 pstp_midi_bars(one_hit.at, one_hit.len, x.place, 1, x.place + 1, 1, out.at, 4, x.place + 2, 1, x.place + 3, 1,
+                                x.place + 4, 1, x.place + 5, 1, x.place + 6, 1, NULL, 0),
+                 refused(13, 9, 1));
     expect_reply(note, pstp_bar_sheet(NULL, 0, 3, NULL, 0), refused(1, 1, 0));
     expect_reply(note, pstp_bar_sheet(s.at, s.len, 3, NULL, 0), refused(13, 1, 243));
     expect_reply(note, pstp_length_of(NULL, 0, NULL, 0, 3), accepted(0, 0));
@@ -70,16 +78,19 @@ void test_empty(void) {
     expect_reply(note, pstp_length_of(NULL, 0, end, 1, 4), refused(11, 0, 0));
     uint32_t pad[PSTP_PAD_WORDS] = {0}, name_ends[PSTP_PAD_SOUNDS] = {0};
     uint8_t sounds[1];
-    expect_reply(note, pstp_pad_save(NULL, 0, 3, 4, NULL, 0, NULL, 0), refused(20, 0, 0));
+    expect_reply(note, pstp_pad_save(NULL, 0, 3, 4, NULL, 0, NULL, 0, NULL, 0), refused(20, 0, 0));
     expect_reply(note, pstp_pad_erase(NULL, 0, 3), refused(20, 0, 0));
-    expect_reply(note, pstp_pad_read(NULL, 0, 3, NULL, 0, NULL, 0), refused(20, 0, 0));
+    expect_reply(note, pstp_pad_read(NULL, 0, 3, NULL, 0, NULL, 0, NULL, 0), refused(20, 0, 0));
     expect_reply(note, pstp_pad_write(NULL, 0, NULL, 0, NULL, 0, NULL, 0), refused(20, 0, 0));
     expect_reply(note, pstp_pad_hits(NULL, 0), accepted(0, 0));
-    expect_reply(note, pstp_pad_save(pad, PSTP_PAD_WORDS, 3, 4, NULL, 0, NULL, 0), accepted(0, 0));
-    expect_reply(note, pstp_pad_read(pad, PSTP_PAD_WORDS, 3, NULL, 0, NULL, 0), accepted(0, 4));
-    expect_reply(note, pstp_pad_save(pad, PSTP_PAD_WORDS, 4, 4, kick, 1, none, 1), accepted(1, 0));
-    expect_reply(note, pstp_pad_read(pad, PSTP_PAD_WORDS, 4, NULL, 0, NULL, 0), refused(13, 1, 1));
-    expect_reply(note, pstp_pad_read(pad, PSTP_PAD_WORDS, 4, sounds, 1, NULL, 0), refused(13, 2, 1));
+    expect_reply(note, pstp_pad_save(pad, PSTP_PAD_WORDS, 3, 4, NULL, 0, NULL, 0, NULL, 0), accepted(0, 0));
+    expect_reply(note, pstp_pad_read(pad, PSTP_PAD_WORDS, 3, NULL, 0, NULL, 0, NULL, 0), accepted(0, 4));
+    expect_reply(note, pstp_pad_save(pad, PSTP_PAD_WORDS, 4, 4, kick, 1, none, 1, NULL, 0), refused(11, 0, 0));
+    expect_reply(note, pstp_pad_save(pad, PSTP_PAD_WORDS, 4, 4, NULL, 0, NULL, 0, kick, 1), refused(11, 0, 0));
+    expect_reply(note, pstp_pad_save(pad, PSTP_PAD_WORDS, 4, 4, kick, 1, none, 1, kick, 1), accepted(1, 0));
+    expect_reply(note, pstp_pad_read(pad, PSTP_PAD_WORDS, 4, NULL, 0, NULL, 0, NULL, 0), refused(13, 1, 1));
+    expect_reply(note, pstp_pad_read(pad, PSTP_PAD_WORDS, 4, sounds, 1, NULL, 0, NULL, 0), refused(13, 2, 1));
+    expect_reply(note, pstp_pad_read(pad, PSTP_PAD_WORDS, 4, sounds, 1, x.place, 1, NULL, 0), refused(13, 3, 1));
     expect_reply(note, pstp_pad_write(pad, PSTP_PAD_WORDS, NULL, 0, name_ends, 128, NULL, 0), refused(6, 6, 0));
     expect_reply(note, pstp_pad_write(pad, PSTP_PAD_WORDS, NULL, 0, NULL, 0, NULL, 0), refused(11, 0, 0));
     expect_reply(note, pstp_pad_erase(pad, PSTP_PAD_WORDS, 4), accepted(1, 0));

@@ -1,37 +1,40 @@
 /* Bars from MIDI files: the worked files list by list, written and asked; header and heading. midi_events.c has the events. */
 #include "midi.h"
 
+#include <stdio.h>
+#include <stdlib.h>
 #include <string.h>
 
 /* Files by their bytes, and the lists that they become. */
 static const struct worked {
     const char *note, *file;
     size_t reply[4];           /* bars, sounds, postings, positions */
-    const char *lists[8];      /* in the order of the buffers */
+    const char *lists[LISTS];  /* in the order of the buffers */
     const char *phrases[3][2]; /* names, and the bars in which the file's notes have them on consecutive steps */
 } worked[] = {
     {"a groove: running status, the last step of a bar, the next bar",
      "4D 54 68 64 00 00 00 06 00 00 00 01 00 60 4D 54 72 6B 00 00 00 22 "
      "00 FF 51 03 07 A1 20 00 99 24 64 30 2A 50 00 24 00 30 26 6E 81 70 24 5A 2F 26 28 01 24 7F 00 FF 2F 00",
      {2, 3, 4, 6},
-     {"0 1", "16 16", "n036n038n042", "4 8 12", "2 1 1", "0 1 0 0", "2 1 2 1", "0 14 0 4 15 2"},
+     {"0 1", "16 16", "n036n038n042", "4 8 12", "2 1 1", "0 1 0 0", "2 1 2 1", "0 14 0 4 15 2",
+      "100 90 127 110 40 80"},
      {{"n036 n038", "0"}, {"n038 n036", ""}, {"n036", "0 1"}}},
     {"equal hits on one step, a bar without hits",
      "4D 54 68 64 00 00 00 06 00 00 00 01 00 04 4D 54 72 6B 00 00 00 1B "
      "00 F0 03 7E 09 F7 00 90 26 14 00 99 26 50 00 26 32 00 24 40 23 26 01 00 FF 2F 00",
      {3, 2, 3, 3},
-     {"0 1 2", "16 16 16", "n036n038", "4 8", "1 2", "0 0 2", "1 1 1", "0 0 3"},
+     {"0 1 2", "16 16 16", "n036n038", "4 8", "1 2", "0 0 2", "1 1 1", "0 0 3", "64 80 1"},
      {{"n038", "0 2"}, {"n036 n038", ""}, {"n036", "0"}}},
     {"24 ticks to a step",
      "4D 54 68 64 00 00 00 06 00 00 00 01 00 60 4D 54 72 6B 00 00 00 15 "
      "00 99 2D 64 20 2F 50 20 32 3C 82 3F 2D 5A 01 2D 7F 00 FF 2F 00",
      {2, 3, 4, 5},
-     {"0 1", "16 16", "n045n047n050", "4 8 12", "2 1 1", "0 1 0 0", "2 1 1 1", "0 15 0 1 2"},
+     {"0 1", "16 16", "n045n047n050", "4 8 12", "2 1 1", "0 1 0 0", "2 1 1 1", "0 15 0 1 2", "100 90 127 80 60"},
      {{"n045 n047 n050", "0"}, {"n045 n045", ""}, {"n047 n050", "0"}}},
     {"no hits",
      "4D 54 68 64 00 00 00 06 00 00 00 01 7F FC 4D 54 72 6B 00 00 00 04 00 FF 2F 00",
      {0, 0, 0, 0},
-     {"", "", "", "", "", "", "", ""},
+     {"", "", "", "", "", "", "", "", ""},
      {{"n036", ""}, {"", ""}, {"n036 n038", ""}}},
 };
 
@@ -91,16 +94,52 @@ static const struct damage {
     {"an empty track: the end is missing at the file's end", 18, "00 00 00 00", 22, 22},
 };
 
+struct lists bars_of(const char *hits) {
+    struct lists l;
+    memset(&l, 0, sizeof l);
+    unsigned long last = 0, note_before = 128, bar_before = 0;
+    for (const char *next = hits; *next;) {
+        char *end;
+        unsigned long note = strtoul(next, &end, 10), step = strtoul(end + 1, &end, 10), bar = step / 16;
+        uint8_t velocity = *end == ':' ? (uint8_t)strtoul(end + 1, &end, 10) : 64;
+        next = *end == ' ' ? end + 1 : end;
+        if (note != note_before) {
+            char name[8];
+            snprintf(name, sizeof name, "n%03lu", note);
+            append(&l.text, name, 4);
+            l.ends.at[l.ends.len++] = (uint32_t)l.text.len;
+            l.posting_counts.len++;
+        }
+        if (note != note_before || bar != bar_before) {
+            l.posting_counts.at[l.posting_counts.len - 1]++;
+            l.posting_ids.at[l.posting_ids.len++] = (uint32_t)bar;
+            l.position_counts.len++;
+        }
+        l.position_counts.at[l.position_counts.len - 1]++;
+        l.positions.at[l.positions.len++] = (uint32_t)(step % 16);
+        l.velocities.at[l.velocities.len++] = velocity;
+        note_before = note, bar_before = bar;
+        last = bar > last ? bar : last;
+    }
+    while (*hits && l.ids.len <= last) {
+        l.lengths.at[l.lengths.len++] = 16;
+        l.ids.at[l.ids.len] = (uint32_t)l.ids.len;
+        l.ids.len++;
+    }
+    return l;
+}
+
 static struct lists no_lists;
 
-static const size_t nothing[8] = {0}, plenty[8] = {ROOM, ROOM, sizeof no_lists.text.at, ROOM, ROOM, ROOM, ROOM, ROOM};
+static const size_t nothing[LISTS] = {0};
+static const size_t plenty[LISTS] = {ROOM, ROOM, sizeof no_lists.text.at, ROOM, ROOM, ROOM, ROOM, ROOM, sizeof no_lists.velocities.at};
 
 /* One call with so many places in each buffer. `lists`: what the buffers hold behind it. */
-static void import(const char *note, const struct bytes *file, const size_t room[8], pstp_reply want, const struct lists *lists) {
+static void import(const char *note, const struct bytes *file, const size_t room[LISTS], pstp_reply want, const struct lists *lists) {
     struct lent a = lent(), b = lent(), c = lent(), d = lent(), e = lent(), f = lent(), g = lent();
-    struct bytes text = lent_bytes();
+    struct bytes text = lent_bytes(), velocities = lent_bytes();
     pstp_reply got = pstp_midi_bars(file->at, file->len, a.place, room[0], b.place, room[1], text.at, room[2], c.place, room[3], d.place,
-                                    room[4], e.place, room[5], f.place, room[6], g.place, room[7]);
+                                    room[4], e.place, room[5], f.place, room[6], g.place, room[7], velocities.at, room[8]);
     expect_reply(note, got, want);
     expect_filled(note, &a, lists->ids.at, lists->ids.len);
     expect_filled(note, &b, lists->lengths.at, lists->lengths.len);
@@ -110,20 +149,21 @@ static void import(const char *note, const struct bytes *file, const size_t room
     expect_filled(note, &e, lists->posting_ids.at, lists->posting_ids.len);
     expect_filled(note, &f, lists->position_counts.at, lists->position_counts.len);
     expect_filled(note, &g, lists->positions.at, lists->positions.len);
+    expect_written(note, &velocities, &lists->velocities, lists->velocities.len);
 }
 
 void expect_bars(const char *note, const struct bytes *file, const struct lists *l) {
-    const size_t need[8] = {l->ids.len,         l->lengths.len,         l->text.len,     l->ends.len, l->posting_counts.len,
-                            l->posting_ids.len, l->position_counts.len, l->positions.len};
+    const size_t need[LISTS] = {l->ids.len,         l->lengths.len,         l->text.len,      l->ends.len,      l->posting_counts.len,
+                                l->posting_ids.len, l->position_counts.len, l->positions.len, l->velocities.len};
     pstp_reply want = accepted_four(l->ids.len, l->ends.len, l->posting_ids.len, l->positions.len);
     import(note, file, plenty, want, l);
     import(note, file, need, want, l);
-    for (size_t i = 0; i < 8; i++) {
-        size_t only[8], none[8], from[8];
+    for (size_t i = 0; i < LISTS; i++) {
+        size_t only[LISTS], none[LISTS], from[LISTS];
         if (need[i] == 0) {
             continue; /* no place is too few */
         }
-        for (size_t k = 0; k < 8; k++) {
+        for (size_t k = 0; k < LISTS; k++) {
             only[k] = need[k] - (k == i);     /* one place too few in one buffer */
             none[k] = k == i ? 0 : plenty[k]; /* no place in it */
             from[k] = k < i ? need[k] : 0;    /* nor in those behind it */
@@ -143,9 +183,9 @@ void expect_no_bars(const char *note, const struct bytes *file, pstp_reply want)
 /* Imported, written from the buffers that were lent, and asked. */
 static void test_phrases(const struct worked *row, const struct bytes *file) {
     static uint32_t ids[ROOM], lengths[ROOM], ends[ROOM], posting_counts[ROOM], posting_ids[ROOM], position_counts[ROOM], positions[ROOM];
-    static uint8_t text[ROOM], segment[2048];
+    static uint8_t text[ROOM], velocities[ROOM], segment[2048];
     pstp_reply r = pstp_midi_bars(file->at, file->len, ids, ROOM, lengths, ROOM, text, ROOM, ends, ROOM, posting_counts, ROOM, posting_ids,
-                                  ROOM, position_counts, ROOM, positions, ROOM);
+                                  ROOM, position_counts, ROOM, positions, ROOM, velocities, ROOM);
     size_t bars = (size_t)r.first, sounds = (size_t)r.second, postings = (size_t)r.third, places = (size_t)r.fourth;
     r = pstp_write_positional_segment(ids, bars, lengths, bars, text, 4 * sounds, ends, sounds, posting_counts, sounds, posting_ids,
                                       postings, position_counts, postings, positions, places, segment, sizeof segment);
@@ -163,24 +203,28 @@ static void test_phrases(const struct worked *row, const struct bytes *file) {
 }
 
 static void test_worked(const struct worked *row) {
-    struct bytes file = hex(row->file), text = {{0}, 0};
-    struct numbers list[8];
-    for (size_t i = 0; i < 8; i++) {
+    struct bytes file = hex(row->file), text = {{0}, 0}, velocities = {{0}, 0};
+    struct numbers list[LISTS];
+    for (size_t i = 0; i < LISTS; i++) {
         list[i] = numbers(i == 2 ? "" : row->lists[i]);
     }
     append(&text, row->lists[2], strlen(row->lists[2]));
-    struct lists want = {list[0], list[1], text, list[3], list[4], list[5], list[6], list[7]};
+    while (velocities.len < list[8].len) {
+        velocities.at[velocities.len] = (uint8_t)list[8].at[velocities.len];
+        velocities.len++;
+    }
+    struct lists want = {list[0], list[1], text, list[3], list[4], list[5], list[6], list[7], velocities};
     expect("bars", list[0].len == row->reply[0] && list[1].len == row->reply[0]);
     expect("sounds", text.len == 4 * row->reply[1] && list[3].len == row->reply[1] && list[4].len == row->reply[1]);
     expect("postings", list[5].len == row->reply[2] && list[6].len == row->reply[2]);
-    expect("positions", list[7].len == row->reply[3]);
+    expect("positions", list[7].len == row->reply[3] && list[8].len == row->reply[3]);
     expect_bars(row->note, &file, &want);
     test_phrases(row, &file);
 }
 
 static pstp_reply without_room(const struct bytes *file) {
     return pstp_midi_bars(file->at, file->len, nowhere, 0, nowhere, 0, no_bytes, 0, nowhere, 0, nowhere, 0, nowhere, 0, nowhere, 0, nowhere,
-                          0);
+                          0, no_bytes, 0);
 }
 
 /* Each byte of header and heading but the division with each other value. */

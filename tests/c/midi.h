@@ -5,12 +5,17 @@
 #include "build.h"
 #include "check.h"
 
-/* The eight lists that a file becomes. */
+/* The nine lists that a file becomes. */
+enum { LISTS = 9 };
 struct lists {
     struct numbers ids, lengths;
     struct bytes text;
     struct numbers ends, posting_counts, posting_ids, position_counts, positions;
+    struct bytes velocities;
 };
+
+/* Those of some hits, given by note, then step from the beginning of the file: "36@0:127 36@1". Without a velocity it is 64. */
+struct lists bars_of(const char *hits);
 
 /* Accepted with places enough, and nothing but the lists is filled. With a place too few in a buffer it is 13 for that buffer, and every
  * buffer is as it was. */

@@ -1,11 +1,11 @@
-/* The events of a MIDI file: what is a hit, on which step, what is skipped, and each error in the order of the file. */
+/* The events of a MIDI file: what is a hit, on which step, what is skipped, and each error in the order of the file. midi_velocity.c has
+ * how loud a hit is. */
 #include "midi.h"
 
 #include <stdio.h>
-#include <stdlib.h>
 #include <string.h>
 
-/* Accepted: division, events, and the hits by note, then step from the beginning of the file. END is an end of track. */
+/* Accepted: division, events, and the hits as bars_of takes them. END is an end of track. */
 #define END "00 FF 2F 00"
 static const struct {
     const char *note;
@@ -13,8 +13,8 @@ static const struct {
     const char *events, *hits;
 } good[] = {
     /* Note-ons. */
-    {"the least note and velocity", 4, "00 90 00 01 " END, "0@0"},
-    {"the greatest note and velocity", 4, "00 9F 7F 7F " END, "127@0"},
+    {"the least note and velocity", 4, "00 90 00 01 " END, "0@0:1"},
+    {"the greatest note and velocity", 4, "00 9F 7F 7F " END, "127@0:127"},
     {"velocity 0 is no hit", 4, "00 90 24 00 " END, ""},
     {"a note-off with a velocity is no hit", 4, "00 80 24 40 " END, ""},
     {"other messages are no hits", 4, "00 A0 24 40 00 B0 24 40 00 C0 24 00 D0 24 00 E0 24 40 " END, ""},
@@ -153,40 +153,6 @@ static const struct {
     {"an error behind velocity 0 too far", FAR " 01 24 00 01 F1", 31},
 };
 
-/* The lists of some hits, given by note, then step. */
-static struct lists bars_of(const char *hits) {
-    struct lists l;
-    memset(&l, 0, sizeof l);
-    unsigned long last = 0, note_before = 128, bar_before = 0;
-    for (const char *next = hits; *next;) {
-        char *end;
-        unsigned long note = strtoul(next, &end, 10), step = strtoul(end + 1, &end, 10), bar = step / 16;
-        next = *end == ' ' ? end + 1 : end;
-        if (note != note_before) {
-            char name[8];
-            snprintf(name, sizeof name, "n%03lu", note);
-            append(&l.text, name, 4);
-            l.ends.at[l.ends.len++] = (uint32_t)l.text.len;
-            l.posting_counts.len++;
-        }
-        if (note != note_before || bar != bar_before) {
-            l.posting_counts.at[l.posting_counts.len - 1]++;
-            l.posting_ids.at[l.posting_ids.len++] = (uint32_t)bar;
-            l.position_counts.len++;
-        }
-        l.position_counts.at[l.position_counts.len - 1]++;
-        l.positions.at[l.positions.len++] = (uint32_t)(step % 16);
-        note_before = note, bar_before = bar;
-        last = bar > last ? bar : last;
-    }
-    while (*hits && l.ids.len <= last) {
-        l.lengths.at[l.lengths.len++] = 16;
-        l.ids.at[l.ids.len] = (uint32_t)l.ids.len;
-        l.ids.len++;
-    }
-    return l;
-}
-
 /* A good file with something behind an event of every status: note-ons of each channel are hits, F1 to F6 and F8 to FE are errors. */
 static void test_every_status(void) {
     for (unsigned status = 0x80; status < 0x100; status++) {
@@ -208,13 +174,13 @@ static void test_every_status(void) {
 
 /* All 128 notes with each velocity from 0 to 127 once, highest note first. */
 static void test_every_note(void) {
-    char hits[1024] = "";
+    char hits[2048] = "";
     struct bytes file = midi(4, "00 90 7F 00");
     for (unsigned note = 0; note < 128; note++) {
         uint8_t event[3] = {0, (uint8_t)(127 - note), (uint8_t)note};
         append(&file, event, 3);
         if (note < 127) {
-            snprintf(hits + strlen(hits), sizeof hits - strlen(hits), "%s%u@0", note ? " " : "", note);
+            snprintf(hits + strlen(hits), sizeof hits - strlen(hits), "%s%u@0:%u", note ? " " : "", note, 127 - note);
         }
     }
     close_track(&file);

@@ -11,8 +11,8 @@ enum { LIMIT = 16777216, BARS = 65536, SOUNDS = 128 };
 /* Every buffer with the room that the header calls always enough, each place with a value of its own. */
 struct always {
     uint32_t *ids, *lengths, *ends, *posting_counts, *posting_ids, *position_counts, *positions;
-    uint8_t *text;
-    size_t n; /* places of the last three */
+    uint8_t *text, *velocities;
+    size_t n; /* places of the last four */
 };
 
 static uint32_t *marked(size_t n) {
@@ -34,19 +34,21 @@ static bool kept(const uint32_t *places, size_t from, size_t n) {
 
 static struct always always_enough(size_t file_len) {
     size_t n = file_len / 3;
-    struct always a = {marked(BARS), marked(BARS), marked(SOUNDS), marked(SOUNDS), marked(n), marked(n), marked(n), malloc(512), n};
+    struct always a = {marked(BARS), marked(BARS), marked(SOUNDS), marked(SOUNDS), marked(n), marked(n), marked(n), malloc(512),
+                       malloc(n + 1), n};
     memset(a.text, 0xA5, 512);
+    memset(a.velocities, 0xA5, n + 1);
     return a;
 }
 
 static void release(struct always a) {
     free(a.ids), free(a.lengths), free(a.ends), free(a.posting_counts);
-    free(a.posting_ids), free(a.position_counts), free(a.positions), free(a.text);
+    free(a.posting_ids), free(a.position_counts), free(a.positions), free(a.text), free(a.velocities);
 }
 
 static pstp_reply import(const uint8_t *file, size_t len, struct always a) {
     return pstp_midi_bars(file, len, a.ids, BARS, a.lengths, BARS, a.text, 512, a.ends, SOUNDS, a.posting_counts, SOUNDS, a.posting_ids,
-                          a.n, a.position_counts, a.n, a.positions, a.n);
+                          a.n, a.position_counts, a.n, a.positions, a.n, a.velocities, a.n);
 }
 
 /* Nothing is filled but what the numbers say: bars, sounds, postings, positions. */
@@ -56,6 +58,9 @@ static bool tails_kept(struct always a, size_t bars, size_t sounds, size_t posti
         && kept(a.positions, positions, a.n);
     for (size_t i = 4 * sounds; i < 512; i++) {
         same = same && a.text[i] == 0xA5;
+    }
+    for (size_t i = positions; i < a.n; i++) {
+        same = same && a.velocities[i] == 0xA5;
     }
     return same;
 }
@@ -72,6 +77,10 @@ static bool bars_from_0(struct always a, size_t bars) {
  * before. So group g is in bar g + g / 16 on step g % 16, and each hit is a posting of its own. */
 enum { HITS = 5592396, GROUPS = HITS / SOUNDS + 1, LAST = HITS % SOUNDS };
 
+static uint8_t loudness(uint32_t group, uint32_t note) {
+    return (uint8_t)(1 + (group + 3 * note) % 127);
+}
+
 static uint8_t *longest_file(void) {
     uint8_t *file = calloc(LIMIT + 1, 1), *next = file + 22;
     memcpy(file, "MThd\x00\x00\x00\x06\x00\x00\x00\x01\x00\x04MTrk\x00\xFF\xFF\xEA", 22);
@@ -84,7 +93,7 @@ static uint8_t *longest_file(void) {
             *next++ = 0x99;
         }
         *next++ = (uint8_t)(i % SOUNDS);
-        *next++ = 1;
+        *next++ = loudness(i / SOUNDS, i % SOUNDS);
     }
     memcpy(next, "\x00\xFF\x2F", 4);
     expect("the longest file", next + 4 == file + LIMIT);
@@ -121,10 +130,11 @@ static void test_longest_file(void) {
         snprintf(name, sizeof name, "n%03u", (unsigned)note);
         same = same && memcmp(a.text + 4 * note, name, 4) == 0 && a.ends[note] == 4 * note + 4 && a.posting_counts[note] == groups;
         for (uint32_t g = 0; g < groups; g++, posting++) {
-            same = same && a.posting_ids[posting] == g + g / 16 && a.position_counts[posting] == 1 && a.positions[posting] == g % 16;
+            same = same && a.posting_ids[posting] == g + g / 16 && a.position_counts[posting] == 1 && a.positions[posting] == g % 16
+                && a.velocities[posting] == loudness(g, note);
         }
     }
-    expect("the longest file: sounds, postings, positions", same && posting == HITS);
+    expect("the longest file: sounds, postings, positions, velocities", same && posting == HITS);
     release(a);
     free(file);
 }
@@ -147,7 +157,8 @@ static void test_last_bar(void) {
     expect("the last bar: tails", tails_kept(a, BARS, 1, 1, 1));
     expect("the last bar: bars", bars_from_0(a, BARS));
     expect("the last bar: the hit", memcmp(a.text, "n036", 4) == 0 && a.ends[0] == 4 && a.posting_counts[0] == 1
-                                        && a.posting_ids[0] == 65535 && a.position_counts[0] == 1 && a.positions[0] == 15);
+                                        && a.posting_ids[0] == 65535 && a.position_counts[0] == 1 && a.positions[0] == 15
+                                        && a.velocities[0] == 64);
     release(a);
 }
 

@@ -27,13 +27,13 @@ static void test_two_bars(bool zeros) {
     expect_hits("3 hits of bar 7", 3);
     save(note, 3, 16, "36:0 36:4 36:15 38:8 38:14");
     expect_hits("5 more of bar 3", 8);
-    for (size_t sounds = 0; sounds <= 7; sounds++) {
-        for (size_t steps = 0; steps <= 7; steps++) {
-            pstp_reply none = refused(PSTP_NO_ROOM, sounds < 5 ? 1 : 2, 5);
-            expect_back(note, 3, sounds, steps, &bar_3, sounds < 5 || steps < 5 ? none : accepted(5, 16));
-        }
+    for (size_t room = 0; room < 8 * 8 * 8; room++) {
+        size_t sounds = room % 8, steps = room / 8 % 8, velocities = room / 64;
+        pstp_reply none = refused(PSTP_NO_ROOM, sounds < 5 ? 1 : steps < 5 ? 2 : 3, 5);
+        bool fits = sounds >= 5 && steps >= 5 && velocities >= 5;
+        expect_back(note, 3, sounds, steps, velocities, &bar_3, fits ? accepted(5, 16) : none);
     }
-    expect_back("unknown comes before room", 4, 0, 0, NULL, refused(PSTP_UNKNOWN_BAR, 0, 0));
+    expect_back("unknown comes before room", 4, 0, 0, 0, NULL, refused(PSTP_UNKNOWN_BAR, 0, 0));
     for (size_t room = 0; room <= 200; room++) {
         expect_segment(note, &names, room, segment.at, room < 165 ? refused(PSTP_NO_ROOM, 1, 165) : accepted(165, 0));
     }
@@ -41,7 +41,7 @@ static void test_two_bars(bool zeros) {
     expect_map(note);
 }
 
-/* What saving refuses on a pad that holds bar 1, and in which order. */
+/* What saving refuses on a pad that holds bar 1, and in which order; pad_velocity.c has the velocities. */
 static const struct {
     const char *note;
     uint32_t id, length;
@@ -76,14 +76,16 @@ static const struct {
     {"the largest step", 2, 4294967295u, "5", "4294967295", 6, 21},
 };
 
+/* A good velocity for each sound. */
 static struct hits lists(const char *sounds, const char *steps) {
     struct numbers first = numbers(sounds), second = numbers(steps);
     struct hits h = hits("");
     for (size_t i = 0; i < first.len; i++) {
         h.sounds[i] = (uint8_t)first.at[i];
+        h.velocities[i] = (uint8_t)(127 - i);
     }
     memcpy(h.steps, second.at, second.len * sizeof second.at[0]);
-    h.sounds_len = first.len;
+    h.sounds_len = h.velocities_len = first.len;
     h.steps_len = second.len;
     return h;
 }
@@ -104,8 +106,8 @@ static void test_refusals(bool zeros) {
     expect_erased("a bar erased", 1, accepted(1, 0));
     expect_erased("an erased bar is unknown", 1, refused(PSTP_UNKNOWN_BAR, 0, 0));
     expect_hits("a refused erasure leaves the number of hits", 0);
-    expect_back("an erased bar is unknown", 1, MOST_HITS, MOST_HITS, NULL, refused(PSTP_UNKNOWN_BAR, 0, 0));
-    expect_back("a bar without hits, no room", 2, 0, 0, &none, accepted(0, 0));
+    expect_back("an erased bar is unknown", 1, MOST_HITS, MOST_HITS, MOST_HITS, NULL, refused(PSTP_UNKNOWN_BAR, 0, 0));
+    expect_back("a bar without hits, no room", 2, 0, 0, 0, &none, accepted(0, 0));
     expect_map("a bar without hits");
     expect_erased("a bar without hits erased", 2, accepted(0, 0));
     expect("no bar is left", recorded()[PSTP_PAD_BAR_COUNT] == 0 && recorded()[PSTP_PAD_HIT_COUNT] == 0);
@@ -223,23 +225,28 @@ static void test_ends(bool zeros) {
     }
 }
 
-/* The README's example: three bars recorded, one erased, the rest written and searched. */
+/* The README's example: three bars recorded, one read back and erased, the rest written and searched. */
 static void test_search(void) {
-    uint32_t pad[PSTP_PAD_WORDS] = {0}, ends[PSTP_PAD_SOUNDS] = {0}, phrase_ends[] = {4, 9}, found[3];
+    uint32_t pad[PSTP_PAD_WORDS] = {0}, ends[PSTP_PAD_SOUNDS] = {0}, phrase_ends[] = {4, 9}, found[3], steps[3];
     const uint8_t *text = (const uint8_t *)"kicksnare";
-    uint8_t sounds[] = {36, 36, 38}, segment[512];
+    uint8_t sounds[] = {36, 36, 38}, even[] = {90, 90, 90}, accent[] = {70, 127, 100}, none[] = {0, 64, 64}, segment[512];
+    uint8_t read[3], loud[3];
     uint32_t rock[] = {0, 8, 4}, fill[] = {0, 2, 3}, off[] = {2, 7, 8};
+    const size_t words = PSTP_PAD_WORDS;
     for (size_t sound = 36; sound < PSTP_PAD_SOUNDS; sound++) {
         ends[sound] = sound < 38 ? 4 : 9;
     }
-    expect_reply("rock", pstp_pad_save(pad, PSTP_PAD_WORDS, 12, 16, sounds, 3, rock, 3), accepted(3, 0));
-    expect_reply("fill", pstp_pad_save(pad, PSTP_PAD_WORDS, 5, 16, sounds, 3, fill, 3), accepted(3, 0));
-    expect_reply("off", pstp_pad_save(pad, PSTP_PAD_WORDS, 7, 16, sounds, 3, off, 3), accepted(3, 0));
-    expect_reply("bar 5 again", pstp_pad_save(pad, PSTP_PAD_WORDS, 5, 16, sounds, 3, off, 3), refused(PSTP_ALREADY_HELD, 0, 0));
-    expect_reply("9 hits", pstp_pad_hits(pad, PSTP_PAD_WORDS), accepted(9, 0));
-    expect_reply("bar 5 erased", pstp_pad_erase(pad, PSTP_PAD_WORDS, 5), accepted(3, 0));
-    expect_reply("6 hits", pstp_pad_hits(pad, PSTP_PAD_WORDS), accepted(6, 0));
-    pstp_reply r = pstp_pad_write(pad, PSTP_PAD_WORDS, text, 9, ends, PSTP_PAD_SOUNDS, segment, sizeof segment);
+    expect_reply("rock", pstp_pad_save(pad, words, 12, 16, sounds, 3, rock, 3, even, 3), accepted(3, 0));
+    expect_reply("fill", pstp_pad_save(pad, words, 5, 16, sounds, 3, fill, 3, even, 3), accepted(3, 0));
+    expect_reply("off", pstp_pad_save(pad, words, 7, 16, sounds, 3, off, 3, accent, 3), accepted(3, 0));
+    expect_reply("bar 5 again", pstp_pad_save(pad, words, 5, 16, sounds, 3, off, 3, even, 3), refused(PSTP_ALREADY_HELD, 0, 0));
+    expect_reply("velocity 0", pstp_pad_save(pad, words, 6, 16, sounds, 3, off, 3, none, 3), refused(PSTP_VELOCITY_RANGE, 0, 0));
+    expect_reply("9 hits", pstp_pad_hits(pad, words), accepted(9, 0));
+    expect_reply("bar 5 erased", pstp_pad_erase(pad, words, 5), accepted(3, 0));
+    expect_reply("6 hits", pstp_pad_hits(pad, words), accepted(6, 0));
+    expect_reply("bar 7 read back", pstp_pad_read(pad, words, 7, read, 3, steps, 3, loud, 3), accepted(3, 16));
+    expect("bar 7 read back", memcmp(read, sounds, 3) == 0 && memcmp(steps, off, sizeof off) == 0 && memcmp(loud, accent, 3) == 0);
+    pstp_reply r = pstp_pad_write(pad, words, text, 9, ends, PSTP_PAD_SOUNDS, segment, sizeof segment);
     expect_reply("two bars written", r, accepted(163, 0));
     r = pstp_phrase_match_strs(segment, 163, text, 9, phrase_ends, 2, found, 3);
     expect_reply("kick, then snare", r, accepted(1, 0));

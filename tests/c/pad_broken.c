@@ -1,7 +1,7 @@
 /* Words that are no pad: 20 in every call but the hit counter, before whatever else is wrong; the counter answers the stored number.
  * Nothing is changed. */
 #define _DEFAULT_SOURCE
-#include "build.h"
+#include "broken.h"
 #include "check.h"
 #include "guarded.h"
 
@@ -9,17 +9,6 @@
 #include <sys/mman.h>
 
 #define MOST 4294967295u
-
-enum { LIMIT = 16777216 };
-
-/* Bars 3, 7 and 9: id, length, number of hits, hits. */
-static const uint32_t three_bars[] = {
-    3, 8, /* bars, hits */
-    3, 16, 5, 36, 0, 36, 4, 36, 15, 38, 8, 38, 14, /* from word 2 on */
-    7, 16, 3, 36, 2, 38, 3, 38, 4, /* from word 15 on */
-    9, 0, 0, /* from word 24 on */
-};
-enum { THREE = sizeof three_bars / sizeof three_bars[0] };
 
 /* Some words of the three bars changed; what lies behind them is free, and is tried as zeros and as the largest words. */
 static const struct broken {
@@ -66,13 +55,14 @@ static const struct broken {
     {"an id twice among bars without hits", {{0, 5}, {27, 10}, {28, 1}, {29, 0}, {30, 10}, {31, 1}, {32, 0}}},
 
     /* A bar whose hits break the rules for saving. */
-    {"a sound above 127", {{20, 128}}},
-    {"a last sound above 127", {{13, 128}}},
-    {"a sound that is 38 modulo 256", {{22, 294}}},
-    {"the largest sound", {{22, MOST}}},
+    {"a sound above 127", {{20, HIT(128, 64)}}},
+    {"a last sound above 127", {{13, HIT(128, 1)}}},
+    {"a last sound of 255", {{22, HIT(255, 127)}}},
+    {"the largest word for a hit", {{22, MOST}}},
     {"equal hits", {{8, 0}}},
     {"a smaller step of a sound", {{10, 3}}},
-    {"a smaller sound", {{11, 35}}},
+    {"a smaller sound", {{11, HIT(35, 127)}}},
+    {"a smaller sound and step", {{11, HIT(35, 1)}, {12, 3}}},
     {"an equal last hit", {{23, 3}}},
     {"a step of the length", {{19, 16}}},
     {"a step above the length", {{14, 17}}},
@@ -81,99 +71,33 @@ static const struct broken {
     {"a length of 0 with hits", {{16, 0}}},
 };
 
-static uint32_t before[PSTP_PAD_WORDS + 1];
-static const uint8_t *long_bytes; /* one more than a list may have */
-static const uint32_t *long_words;
-
-/* Word 1 as it is stored, if there is one. */
-static void expect_stored(const char *note, const uint32_t *pad, size_t len) {
-    expect_reply(note, pstp_pad_hits(pad, len), accepted(len > PSTP_PAD_HIT_COUNT ? before[PSTP_PAD_HIT_COUNT] : 0, 0));
-}
-
-/* 20 to every call on these words but the counter, with nothing else wrong and with each other refusal beside it. */
-static void expect_broken(const char *note, uint32_t *pad, size_t len) {
-    const uint8_t sounds[] = {5, 128}, text[] = {'a', 0xFF};
-    const uint32_t steps[] = {0, 99};
-    struct lent places = lent();
-    struct bytes out = lent_bytes();
-    uint8_t back[16];
-    uint32_t rising[PSTP_PAD_SOUNDS + 1], falling[PSTP_PAD_SOUNDS];
-    pstp_reply want = refused(PSTP_BROKEN_PAD, 0, 0);
-    for (uint32_t i = 0; i <= PSTP_PAD_SOUNDS; i++) {
-        rising[i] = i < 36 ? 0 : i < 38 ? 1 : 2;
-        falling[i % PSTP_PAD_SOUNDS] = i < 64 ? 2 : 0;
-    }
-    memset(back, 0x5A, sizeof back);
-    watch(note);
-    expect_stored(note, pad, len);
-    for (uint32_t id = 2; id <= 9; id++) {
-        expect_reply(note, pstp_pad_save(pad, len, id, 4, sounds, 1, steps, 1), want);
-        expect_reply(note, pstp_pad_save(pad, len, id, 4, sounds, 0, steps, 0), want);
-        expect_reply(note, pstp_pad_save(pad, len, id, 4, sounds, 2, steps, 2), want);
-        expect_reply(note, pstp_pad_save(pad, len, id, 4, sounds, 1, steps, 2), want);
-        expect_reply(note, pstp_pad_save(pad, len, id, 4, long_bytes, LIMIT + 1, steps, 1), want);
-        expect_reply(note, pstp_pad_save(pad, len, id, 4, long_bytes, LIMIT + 1, long_words, LIMIT + 1), want);
-        expect_reply(note, pstp_pad_erase(pad, len, id), want);
-        expect_reply(note, pstp_pad_read(pad, len, id, back, sizeof back, places.place, ROOM), want);
-        expect_reply(note, pstp_pad_read(pad, len, id, back, 0, places.place, ROOM), want);
-        expect_reply(note, pstp_pad_read(pad, len, id, back, sizeof back, places.place, 0), want);
-    }
-    expect_reply(note, pstp_pad_write(pad, len, text, 1, rising, PSTP_PAD_SOUNDS, out.at, sizeof out.at), want);
-    expect_reply(note, pstp_pad_write(pad, len, text, 2, rising, PSTP_PAD_SOUNDS, out.at, sizeof out.at), want);
-    expect_reply(note, pstp_pad_write(pad, len, text, 2, rising, PSTP_PAD_SOUNDS, out.at, 0), want);
-    expect_reply(note, pstp_pad_write(pad, len, text, 2, falling, PSTP_PAD_SOUNDS, out.at, sizeof out.at), want);
-    expect_reply(note, pstp_pad_write(pad, len, text, 2, rising, PSTP_PAD_SOUNDS + 1, out.at, sizeof out.at), want);
-    expect_reply(note, pstp_pad_write(pad, len, text, 0, rising, 0, out.at, sizeof out.at), want);
-    expect_reply(note, pstp_pad_write(pad, len, long_bytes, LIMIT + 1, rising, PSTP_PAD_SOUNDS, out.at, 0), want);
-    expect_reply(note, pstp_pad_write(pad, len, text, 2, long_words, LIMIT + 1, out.at, 0), want);
-    expect_stored(note, pad, len);
-    expect_filled(note, &places, nowhere, 0);
-    expect_written(note, &out, &out, 0);
-    expect(note, back[0] == 0x5A && memcmp(back, back + 1, sizeof back - 1) == 0);
-}
-
-/* The words so far made, at both edges of their memory, and that they stay. */
-static void expect_words_broken(const char *note, size_t len) {
-    for (int at_end = 0; at_end <= 1; at_end++) {
-        uint32_t *pad = guarded(0, at_end, before, len * sizeof before[0]);
-        expect_broken(note, pad, len);
-        expect(note, memcmp(pad, before, len * sizeof before[0]) == 0);
-    }
-}
-
-static void lay_three_bars(uint32_t behind) {
-    for (size_t i = 0; i < sizeof before / sizeof before[0]; i++) {
-        before[i] = i < THREE ? three_bars[i] : behind;
-    }
-}
-
 /* Each of these words is a pad: nothing but what the table above names is refused. */
 static void test_whole(void) {
-    uint8_t sounds[8];
+    uint8_t sounds[8], loud[8];
     uint32_t steps[8];
     lay_three_bars(MOST);
-    expect_stored("8 hits", before, PSTP_PAD_WORDS);
-    expect_reply("bar 3", pstp_pad_read(before, PSTP_PAD_WORDS, 3, sounds, 8, steps, 8), accepted(5, 16));
-    expect_reply("bar 9", pstp_pad_read(before, PSTP_PAD_WORDS, 9, sounds, 0, steps, 0), accepted(0, 0));
-    before[0] = 2;
-    expect_reply("two bars: bar 7", pstp_pad_read(before, PSTP_PAD_WORDS, 7, sounds, 8, steps, 8), accepted(3, 16));
-    expect_reply("two bars: bar 9", pstp_pad_read(before, PSTP_PAD_WORDS, 9, sounds, 8, steps, 8), refused(PSTP_UNKNOWN_BAR, 0, 0));
-    before[0] = 3;
-    before[24] = MOST;
-    before[25] = MOST;
-    expect_reply("the last id", pstp_pad_read(before, PSTP_PAD_WORDS, MOST, sounds, 0, steps, 0), accepted(0, MOST));
-    before[22] = 127;
-    expect_reply("sound 127", pstp_pad_read(before, PSTP_PAD_WORDS, 7, sounds, 8, steps, 8), accepted(3, 16));
-    expect("sound 127", sounds[2] == 127);
+    expect_stored("8 hits", made, PSTP_PAD_WORDS);
+    expect_reply("bar 3", pstp_pad_read(made, PSTP_PAD_WORDS, 3, sounds, 8, steps, 8, loud, 8), accepted(5, 16));
+    expect_reply("bar 9", pstp_pad_read(made, PSTP_PAD_WORDS, 9, sounds, 0, steps, 0, loud, 0), accepted(0, 0));
+    made[0] = 2;
+    expect_reply("two bars: bar 7", pstp_pad_read(made, PSTP_PAD_WORDS, 7, sounds, 8, steps, 8, loud, 8), accepted(3, 16));
+    expect_reply("two bars: bar 9", pstp_pad_read(made, PSTP_PAD_WORDS, 9, sounds, 8, steps, 8, loud, 8), refused(PSTP_UNKNOWN_BAR, 0, 0));
+    made[0] = 3;
+    made[24] = MOST;
+    made[25] = MOST;
+    expect_reply("the last id", pstp_pad_read(made, PSTP_PAD_WORDS, MOST, sounds, 0, steps, 0, loud, 0), accepted(0, MOST));
+    made[22] = HIT(127, 1);
+    expect_reply("sound 127", pstp_pad_read(made, PSTP_PAD_WORDS, 7, sounds, 8, steps, 8, loud, 8), accepted(3, 16));
+    expect("sound 127", sounds[2] == 127 && loud[2] == 1);
 }
 
 /* All but the total is right: numbers around every power of two, among them the right one. */
 static void test_totals(void) {
     lay_three_bars(MOST);
     for (uint32_t i = 0; i < 96; i++) {
-        before[PSTP_PAD_HIT_COUNT] = ((uint32_t)1 << i / 3) - 1 + i % 3;
-        if (before[PSTP_PAD_HIT_COUNT] == 8) {
-            expect_reply("the right total", pstp_pad_read(before, PSTP_PAD_WORDS, 9, no_bytes, 0, nowhere, 0), accepted(0, 0));
+        made[PSTP_PAD_HIT_COUNT] = ((uint32_t)1 << i / 3) - 1 + i % 3;
+        if (made[PSTP_PAD_HIT_COUNT] == 8) {
+            expect_reply("the right total", pstp_pad_read(made, PSTP_PAD_WORDS, 9, no_bytes, 0, nowhere, 0, no_bytes, 0), accepted(0, 0));
         } else {
             expect_words_broken("a wrong total", PSTP_PAD_WORDS);
         }
@@ -193,7 +117,7 @@ static void test_counter(void) {
             expect_reply("word 1 alone", pstp_pad_hits(one - PSTP_PAD_HIT_COUNT, lengths[k]), accepted(totals[i], 0));
         }
     }
-    for (size_t len = 0; len <= THREE; len++) {
+    for (size_t len = 0; len <= THREE_BARS; len++) {
         expect_reply("constants", pstp_pad_hits(three_bars, len), accepted(len > PSTP_PAD_HIT_COUNT ? 8 : 0, 0));
     }
 }
@@ -201,32 +125,34 @@ static void test_counter(void) {
 /* Bars and hits that are laid out well, but one too many. */
 static void test_over_the_limits(void) {
     for (uint32_t bars = 256; bars <= 257; bars++) {
-        memset(before, 0, sizeof before);
-        before[0] = bars;
+        memset(made, 0, sizeof made);
+        made[0] = bars;
         for (uint32_t i = 0; i < bars; i++) {
-            before[2 + 3 * i] = i;
+            made[2 + 3 * i] = i;
         }
         if (bars == 257) {
             expect_words_broken("257 bars without hits", PSTP_PAD_WORDS);
         } else {
-            expect_reply("256 bars", pstp_pad_read(before, PSTP_PAD_WORDS, 255, no_bytes, 0, nowhere, 0), accepted(0, 0));
+            expect_reply("256 bars", pstp_pad_read(made, PSTP_PAD_WORDS, 255, no_bytes, 0, nowhere, 0, no_bytes, 0), accepted(0, 0));
         }
     }
     for (uint32_t hits = 8192; hits <= 8193; hits++) {
-        memset(before, 0, sizeof before);
-        before[0] = 1;
-        before[1] = before[4] = hits;
-        before[2] = 5;
-        before[3] = hits;
+        memset(made, 0, sizeof made);
+        made[0] = 1;
+        made[1] = made[4] = hits;
+        made[2] = 5;
+        made[3] = hits;
         for (uint32_t i = 0; i < hits; i++) {
-            before[6 + 2 * i] = i;
+            made[5 + 2 * i] = HIT(0, 127);
+            made[6 + 2 * i] = i;
         }
         if (hits == 8193) {
             expect_words_broken("8,193 hits in a bar", PSTP_PAD_WORDS);
-            before[1] = 8192;
+            made[1] = 8192;
             expect_words_broken("8,193 hits in a bar, 8,192 in all", PSTP_PAD_WORDS);
         } else {
-            expect_reply("8,192 hits", pstp_pad_read(before, PSTP_PAD_WORDS, 5, no_bytes, 0, nowhere, 0), refused(PSTP_NO_ROOM, 1, 8192));
+            expect_reply("8,192 hits", pstp_pad_read(made, PSTP_PAD_WORDS, 5, no_bytes, 0, nowhere, 0, no_bytes, 0),
+                         refused(PSTP_NO_ROOM, 1, 8192));
         }
     }
 }
@@ -234,15 +160,16 @@ static void test_over_the_limits(void) {
 /* Well-formed hits up to the last word, of a bar that says it has more. */
 static void test_over_the_end(void) {
     static const uint32_t counts[] = {8574, 8575, 20000, 2147483648u, MOST};
-    memset(before, 0, sizeof before);
-    before[0] = 1;
-    before[1] = 8192;
-    before[3] = MOST;
+    memset(made, 0, sizeof made);
+    made[0] = 1;
+    made[1] = 8192;
+    made[3] = MOST;
     for (size_t i = 6; i < PSTP_PAD_WORDS; i += 2) {
-        before[i] = (uint32_t)i;
+        made[i - 1] = HIT(0, 127);
+        made[i] = (uint32_t)i;
     }
     for (size_t i = 0; i < sizeof counts / sizeof counts[0]; i++) {
-        before[4] = counts[i];
+        made[4] = counts[i];
         expect_words_broken("a bar that runs over the end", PSTP_PAD_WORDS);
     }
 }
@@ -253,7 +180,7 @@ static void test_lengths(void) {
     for (int zeros = 0; zeros <= 1; zeros++) {
         lay_three_bars(0);
         if (zeros) {
-            memset(before, 0, sizeof before);
+            memset(made, 0, sizeof made);
         }
         for (size_t i = 0; i < sizeof lengths / sizeof lengths[0]; i++) {
             expect_words_broken("another number of words", lengths[i]);
@@ -265,9 +192,9 @@ static void test_lengths(void) {
             expect("a long slice is there", false);
             return;
         }
-        memcpy(pad, before, PSTP_PAD_WORDS * sizeof *pad);
+        memcpy(pad, made, PSTP_PAD_WORDS * sizeof *pad);
         expect_broken("2^32 words more", pad, len);
-        expect("2^32 words more", memcmp(pad, before, PSTP_PAD_WORDS * sizeof *pad) == 0);
+        expect("2^32 words more", memcmp(pad, made, PSTP_PAD_WORDS * sizeof *pad) == 0);
         munmap(pad, len * sizeof *pad);
     }
 }
@@ -276,16 +203,14 @@ static void test_broken(const struct broken *row, uint32_t behind) {
     lay_three_bars(behind);
     for (size_t k = 0; k < 8; k++) {
         if (k == 0 || row->change[k].at != 0) {
-            before[row->change[k].at] = row->change[k].word;
+            made[row->change[k].at] = row->change[k].word;
         }
     }
     expect_words_broken(row->note, PSTP_PAD_WORDS);
 }
 
 void test_pad_broken(void) {
-    void *untouched = mmap(NULL, 5 * (size_t)LIMIT, PROT_READ, MAP_PRIVATE | MAP_ANONYMOUS | MAP_NORESERVE, -1, 0);
-    long_bytes = untouched;
-    long_words = untouched;
+    lend_long_lists();
     for (size_t i = 0; i < sizeof broken / sizeof broken[0]; i++) {
         test_broken(&broken[i], 0);
         test_broken(&broken[i], MOST);
@@ -296,5 +221,5 @@ void test_pad_broken(void) {
     test_over_the_limits();
     test_over_the_end();
     test_lengths();
-    munmap(untouched, 5 * (size_t)LIMIT);
+    release_long_lists();
 }

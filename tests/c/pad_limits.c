@@ -16,8 +16,10 @@ static void test_in_pieces(bool zeros) {
     const pstp_reply full = refused(PSTP_PAD_FULL, 0, 0);
     new_pad(zeros);
     for (uint32_t id = 0; id < 64; id++) {
-        expect_saved("64 bars of 128 hits", id, 64, &bar, accepted(128, 0));
+        struct hits own = louder(&bar, id);
+        expect_saved("64 bars of 128 hits", id, 64, &own, accepted(128, 0));
     }
+    bar = louder(&bar, 1);
     expect_saved("a hit too many", 100, 64, &one, full);
     expect_saved("an id held before no room", 63, 64, &one, refused(PSTP_ALREADY_HELD, 0, 0));
     expect_saved("a step before no room", 100, 0, &one, refused(PSTP_INVALID_LAYOUT, 21, 0));
@@ -30,7 +32,7 @@ static void test_in_pieces(bool zeros) {
     expect_saved("all the gaps together", 200, 64, &half, accepted(4096, 0));
     expect_saved("a hit too many again", 0, 64, &one, full);
     expect_reply("8,192 hits", pstp_pad_hits(recorded(), PSTP_PAD_WORDS), accepted(8192, 0));
-    expect_back("bar 1", 1, 128, 128, &bar, accepted(128, 64));
+    expect_back("bar 1", 1, 128, 128, 128, &bar, accepted(128, 64));
     expect_segment("an empty name comes before room", &names, 0, NULL, refused(PSTP_INVALID_LAYOUT, PSTP_REASON_EMPTY_TERM, 0));
     expect_map("room in pieces");
     names = all_names();
@@ -46,17 +48,22 @@ static void test_one_bar(bool zeros) {
     expect_saved("8,193 hits, the last step not below the length", 5, 99, &over, refused(PSTP_INVALID_LAYOUT, 21, 0));
     over.steps[8192] = over.steps[8191];
     expect_saved("8,193 hits, the last two equal", 5, 100, &over, refused(PSTP_INVALID_LAYOUT, 20, 0));
+    over.velocities[8192] = 128;
+    expect_saved("8,193 hits, the last velocity above 127", 5, 100, &over, refused(PSTP_VELOCITY_RANGE, 0, 0));
     over.sounds[8192] = 128;
     expect_saved("8,193 hits, the last sound above 127", 5, 100, &over, refused(PSTP_TOO_LARGE, 0, 0));
+    over.velocities_len--;
+    expect_saved("8,193 sounds and steps, 8,192 velocities", 5, 100, &over, refused(PSTP_LIST_SHAPE, 0, 0));
     over.steps_len--;
-    expect_saved("8,193 sounds and 8,192 steps", 5, 100, &over, refused(PSTP_LIST_SHAPE, 0, 0));
+    expect_saved("8,193 sounds, 8,192 steps and velocities", 5, 100, &over, refused(PSTP_LIST_SHAPE, 0, 0));
     expect_saved("8,192 hits", 5, 64, &all, accepted(8192, 0));
     expect_saved("one more", 4, 1, &one, full);
     expect_saved("a bar without hits before it", 4, 0, &none, accepted(0, 0));
     expect_saved("a bar without hits behind it", 6, 0, &none, accepted(0, 0));
-    expect_back("a place too few for the sounds", 5, 8191, 0, NULL, refused(PSTP_NO_ROOM, 1, 8192));
-    expect_back("a place too few for the steps", 5, 8192, 8191, NULL, refused(PSTP_NO_ROOM, 2, 8192));
-    expect_back("what is always enough", 5, PSTP_PAD_HITS, PSTP_PAD_HITS, &all, accepted(8192, 64));
+    expect_back("a place too few for the sounds", 5, 8191, 0, 0, NULL, refused(PSTP_NO_ROOM, 1, 8192));
+    expect_back("a place too few for the steps", 5, 8192, 8191, 0, NULL, refused(PSTP_NO_ROOM, 2, 8192));
+    expect_back("a place too few for the velocities", 5, 8192, 8192, 8191, NULL, refused(PSTP_NO_ROOM, 3, 8192));
+    expect_back("what is always enough", 5, PSTP_PAD_HITS, PSTP_PAD_HITS, PSTP_PAD_HITS, &all, accepted(8192, 64));
     expect_erased("8,192 hits erased", 5, accepted(8192, 0));
     expect_saved("8,192 hits again, under another id", 3, 64, &all, accepted(8192, 0));
     expect_map("8,192 hits");
@@ -68,9 +75,10 @@ static void test_full(bool zeros) {
     const pstp_reply full = refused(PSTP_PAD_FULL, 0, 0);
     new_pad(zeros);
     for (uint32_t i = 0; i < 256; i++) {
+        bar = louder(&bar, 1);
         expect_saved("256 bars of 32 hits", 255 * 7 - 7 * i, 1, &bar, accepted(32, 0));
     }
-    expect("the last word is a step", recorded()[PSTP_PAD_WORDS - 2] == 31 && recorded()[PSTP_PAD_WORDS - 1] == 0);
+    expect("the last word is a step", recorded()[PSTP_PAD_WORDS - 2] % PSTP_PAD_VELOCITY == 31 && recorded()[PSTP_PAD_WORDS - 1] == 0);
     expect_saved("a bar too many, without hits", 1, 1, &none, full);
     expect_saved("an id held in a full pad", 7, 1, &none, refused(PSTP_ALREADY_HELD, 0, 0));
     expect_map("256 bars");
@@ -84,27 +92,39 @@ static void test_full(bool zeros) {
 
 /* Lists of 16,777,216 elements pass 12, and one more does not. Between 18 and 11. */
 static void test_long_lists(void) {
-    uint8_t *bytes = calloc(LIMIT + 1, 1);
+    uint8_t *bytes = calloc(LIMIT + 1, 1), *loud = malloc(LIMIT + 1);
     uint32_t *words = calloc(LIMIT + 1, sizeof words[0]), *ends = calloc(LIMIT + 1, sizeof ends[0]);
-    uint32_t pad[PSTP_PAD_WORDS] = {1, 1, 5, 4, 1, 36, 0}, before[PSTP_PAD_WORDS];
+    uint32_t pad[PSTP_PAD_WORDS] = {1, 1, 5, 4, 1, 36 + 127 * PSTP_PAD_VELOCITY, 0}, before[PSTP_PAD_WORDS];
     const pstp_reply large = refused(PSTP_TOO_LARGE, 0, 0), misfit = refused(PSTP_LIST_SHAPE, 0, 0);
     memcpy(before, pad, sizeof pad);
+    memset(loud, 127, LIMIT + 1);
     for (uint32_t id = 5; id <= 6; id++) {
         pstp_reply held = refused(PSTP_ALREADY_HELD, 0, 0);
-        expect_reply("long sounds", pstp_pad_save(pad, PSTP_PAD_WORDS, id, 1, bytes, LIMIT + 1, words, 0), id == 5 ? held : large);
-        expect_reply("long steps", pstp_pad_save(pad, PSTP_PAD_WORDS, id, 1, bytes, 0, words, LIMIT + 1), id == 5 ? held : large);
-        expect_reply("two long lists", pstp_pad_save(pad, PSTP_PAD_WORDS, id, 1, bytes, LIMIT + 1, words, LIMIT + 1),
-                     id == 5 ? held : large);
-        expect_reply("sounds of the limit", pstp_pad_save(pad, PSTP_PAD_WORDS, id, 1, bytes, LIMIT, words, 0), id == 5 ? held : misfit);
-        expect_reply("steps of the limit", pstp_pad_save(pad, PSTP_PAD_WORDS, id, 1, bytes, 0, words, LIMIT), id == 5 ? held : misfit);
+        for (unsigned lists = 0; lists < 27; lists++) { /* each of the three of no element, of the limit, of one more */
+            size_t len[] = {lists % 3, lists / 3 % 3, lists / 9};
+            bool long_list = len[0] == 2 || len[1] == 2 || len[2] == 2, equal = len[0] == len[1] && len[1] == len[2];
+            for (size_t i = 0; i < 3; i++) {
+                len[i] = len[i] == 0 ? 0 : LIMIT - 1 + len[i];
+            }
+            if (id == 5 || long_list || !equal) {
+                pstp_reply got = pstp_pad_save(pad, PSTP_PAD_WORDS, id, 1, bytes, len[0], words, len[1], loud, len[2]);
+                expect_reply("long lists", got, id == 5 ? held : long_list ? large : misfit);
+            }
+        }
     }
-    expect_reply("two lists of the limit", pstp_pad_save(pad, PSTP_PAD_WORDS, 6, 1, bytes, LIMIT, words, LIMIT), refused(6, 20, 0));
+    pstp_reply got = pstp_pad_save(pad, PSTP_PAD_WORDS, 6, 1, bytes, LIMIT, words, LIMIT, loud, LIMIT);
+    expect_reply("three lists of the limit", got, refused(6, 20, 0));
+    loud[LIMIT - 1] = 128;
+    got = pstp_pad_save(pad, PSTP_PAD_WORDS, 6, 1, bytes, LIMIT, words, LIMIT, loud, LIMIT);
+    expect_reply("their last velocity", got, refused(PSTP_VELOCITY_RANGE, 0, 0));
+    loud[LIMIT - 1] = 1;
     for (uint32_t i = 0; i < LIMIT; i++) {
         words[i] = i;
     }
-    expect_reply("a well-formed bar of the limit", pstp_pad_save(pad, PSTP_PAD_WORDS, 6, LIMIT, bytes, LIMIT, words, LIMIT),
-                 refused(PSTP_PAD_FULL, 0, 0));
-    expect_reply("its last step", pstp_pad_save(pad, PSTP_PAD_WORDS, 6, LIMIT - 1, bytes, LIMIT, words, LIMIT), refused(6, 21, 0));
+    got = pstp_pad_save(pad, PSTP_PAD_WORDS, 6, LIMIT, bytes, LIMIT, words, LIMIT, loud, LIMIT);
+    expect_reply("a well-formed bar of the limit", got, refused(PSTP_PAD_FULL, 0, 0));
+    got = pstp_pad_save(pad, PSTP_PAD_WORDS, 6, LIMIT - 1, bytes, LIMIT, words, LIMIT, loud, LIMIT);
+    expect_reply("its last step", got, refused(6, 21, 0));
 
     /* The text is all of one name that no hit has, of sound 7, then all of sound 36's, which has a hit. */
     for (uint32_t named = 7; named <= 36; named += 29) {
@@ -132,6 +152,7 @@ static void test_long_lists(void) {
     expect_reply("long lists leave the number of hits", pstp_pad_hits(pad, PSTP_PAD_WORDS), accepted(1, 0));
     expect("long lists leave the pad", memcmp(pad, before, sizeof pad) == 0);
     free(bytes);
+    free(loud);
     free(words);
     free(ends);
 }
@@ -153,6 +174,7 @@ static void test_random(bool zeros, uint32_t ids, uint32_t most) {
         uint32_t id = below(ids) * 16777619u, width = 64 + below(64);
         int held = hits_under(id);
         struct hits h = grid(below(8) ? below(most) : below(8193), width);
+        h = louder(&h, below(127));
         pstp_reply unknown = refused(PSTP_UNKNOWN_BAR, 0, 0), full = refused(PSTP_PAD_FULL, 0, 0);
         bool fits = bars_held() < 256 && hits_held() + h.sounds_len <= 8192;
         if (below(5) < 2) {

@@ -17,16 +17,22 @@ static struct {
 } map[PSTP_PAD_BARS];
 static size_t bars;
 
+/* Hits side by side have different velocities, so that one in a wrong place is seen. */
+static uint8_t some_velocity(uint32_t sound, uint32_t step) {
+    return (uint8_t)(1 + (31 * (sound % 127) + 17 * (step % 127)) % 127);
+}
+
 struct hits hits(const char *list) {
     static struct hits h;
-    h.sounds_len = 0;
-    for (const char *next = list; *next;) {
+    size_t n = 0;
+    for (const char *next = list; *next; n++) {
         char *end;
-        h.sounds[h.sounds_len] = (uint8_t)strtoul(next, &end, 10);
-        h.steps[h.sounds_len++] = (uint32_t)strtoul(end + 1, &end, 10);
+        h.sounds[n] = (uint8_t)strtoul(next, &end, 10);
+        h.steps[n] = (uint32_t)strtoul(end + 1, &end, 10);
+        h.velocities[n] = *end == '@' ? (uint8_t)strtoul(end + 1, &end, 10) : some_velocity(h.sounds[n], h.steps[n]);
         next = *end == ' ' ? end + 1 : end;
     }
-    h.steps_len = h.sounds_len;
+    h.sounds_len = h.steps_len = h.velocities_len = n;
     return h;
 }
 
@@ -35,8 +41,18 @@ struct hits grid(size_t n, uint32_t width) {
     for (size_t i = 0; i < n; i++) {
         h.sounds[i] = (uint8_t)(i / width);
         h.steps[i] = (uint32_t)(i % width);
+        h.velocities[i] = some_velocity(h.sounds[i], h.steps[i]);
     }
-    h.sounds_len = h.steps_len = n;
+    h.sounds_len = h.steps_len = h.velocities_len = n;
+    return h;
+}
+
+struct hits louder(const struct hits *from, uint32_t by) {
+    static struct hits h;
+    h = *from;
+    for (size_t i = 0; i < h.velocities_len; i++) {
+        h.velocities[i] = (uint8_t)(1 + (h.velocities[i] - 1 + by) % 127);
+    }
     return h;
 }
 
@@ -115,7 +131,7 @@ static void lay_out(void) {
         bar[PSTP_PAD_BAR_LENGTH] = map[i].length;
         bar[PSTP_PAD_BAR_HITS] = (uint32_t)map[i].hits->sounds_len;
         for (size_t k = 0; k < map[i].hits->sounds_len; k++, hit += PSTP_PAD_HIT_WORDS) {
-            hit[PSTP_PAD_HIT_SOUND] = map[i].hits->sounds[k];
+            hit[PSTP_PAD_HIT_SOUND_VELOCITY] = map[i].hits->sounds[k] + PSTP_PAD_VELOCITY * (uint32_t)map[i].hits->velocities[k];
             hit[PSTP_PAD_HIT_STEP] = map[i].hits->steps[k];
         }
         bar = hit;
@@ -135,7 +151,10 @@ void expect_saved(const char *note, uint32_t id, uint32_t length, const struct h
     uint32_t *words = guarded(0, at_end, pad, sizeof pad);
     const uint8_t *sounds = guarded(1, at_end, h->sounds, h->sounds_len);
     const uint32_t *steps = guarded(2, at_end, h->steps, h->steps_len * sizeof *steps);
-    expect_reply(note, pstp_pad_save(words, PSTP_PAD_WORDS, id, length, sounds, h->sounds_len, steps, h->steps_len), want);
+    const uint8_t *velocities = guarded(3, at_end, h->velocities, h->velocities_len);
+    pstp_reply got = pstp_pad_save(words, PSTP_PAD_WORDS, id, length, sounds, h->sounds_len, steps, h->steps_len, velocities,
+                                   h->velocities_len);
+    expect_reply(note, got, want);
     memcpy(pad, words, sizeof pad);
     if (want.kind == PSTP_ACCEPTED) {
         size_t at = place_of(id);
@@ -168,26 +187,33 @@ static uint8_t byte_mark(size_t i) {
     return (uint8_t)(0xA0 ^ i ^ (i >> 8));
 }
 
-void expect_back(const char *note, uint32_t id, size_t sounds_room, size_t steps_room, const struct hits *answer, pstp_reply want) {
+void expect_back(const char *note, uint32_t id, size_t sounds_room, size_t steps_room, size_t velocities_room, const struct hits *answer,
+                 pstp_reply want) {
     static struct hits lent_hits;
     size_t n = want.kind == PSTP_ACCEPTED ? answer->sounds_len : 0;
     bool same = true;
     for (size_t i = 0; i < MOST_HITS; i++) {
         lent_hits.sounds[i] = byte_mark(i);
         lent_hits.steps[i] = 0xC0DE0000u + (uint32_t)i;
+        lent_hits.velocities[i] = byte_mark(i + 8);
     }
     watch(note);
     at_end = !at_end;
     uint32_t *words = guarded(0, at_end, pad, sizeof pad);
     uint8_t *sounds = guarded(1, at_end, lent_hits.sounds, sounds_room);
     uint32_t *steps = guarded(2, at_end, lent_hits.steps, steps_room * sizeof *steps);
-    expect_reply(note, pstp_pad_read(words, PSTP_PAD_WORDS, id, sounds, sounds_room, steps, steps_room), want);
+    uint8_t *velocities = guarded(3, at_end, lent_hits.velocities, velocities_room);
+    pstp_reply got = pstp_pad_read(words, PSTP_PAD_WORDS, id, sounds, sounds_room, steps, steps_room, velocities, velocities_room);
+    expect_reply(note, got, want);
     memcpy(pad, words, sizeof pad);
     for (size_t i = 0; i < sounds_room; i++) {
         same = same && sounds[i] == (i < n ? answer->sounds[i] : lent_hits.sounds[i]);
     }
     for (size_t i = 0; i < steps_room; i++) {
         same = same && steps[i] == (i < n ? answer->steps[i] : lent_hits.steps[i]);
+    }
+    for (size_t i = 0; i < velocities_room; i++) {
+        same = same && velocities[i] == (i < n ? answer->velocities[i] : lent_hits.velocities[i]);
     }
     expect(note, same);
     expect_words(note);
@@ -267,9 +293,9 @@ pstp_reply expect_as_writer(const char *note, const struct names *names) {
 void expect_map(const char *note) {
     for (size_t i = 0; i < bars; i++) {
         size_t n = map[i].hits->sounds_len;
-        expect_back(note, map[i].id, n, n, map[i].hits, accepted(n, map[i].length));
+        expect_back(note, map[i].id, n, n, n, map[i].hits, accepted(n, map[i].length));
         if (hits_under(map[i].id + 1) < 0) {
-            expect_back(note, map[i].id + 1, MOST_HITS, MOST_HITS, NULL, refused(PSTP_UNKNOWN_BAR, 0, 0));
+            expect_back(note, map[i].id + 1, MOST_HITS, MOST_HITS, MOST_HITS, NULL, refused(PSTP_UNKNOWN_BAR, 0, 0));
         }
     }
 }

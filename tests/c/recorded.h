@@ -5,15 +5,17 @@
 
 #include "build.h"
 
-/* The hits of a bar, as two lists. */
+/* The hits of a bar, as three lists. */
 enum { MOST_HITS = PSTP_PAD_HITS + 8 };
 struct hits {
     uint8_t sounds[MOST_HITS];
     uint32_t steps[MOST_HITS];
-    size_t sounds_len, steps_len;
+    uint8_t velocities[MOST_HITS];
+    size_t sounds_len, steps_len, velocities_len;
 };
-struct hits hits(const char *list);         /* "36:2 38:3" */
+struct hits hits(const char *list);         /* "36:2@127 38:3"; without @ a velocity that differs from hit to hit */
 struct hits grid(size_t n, uint32_t width); /* n hits: sound 0 on steps 0 to width - 1, then sound 1, and so on */
+struct hits louder(const struct hits *hits, uint32_t by); /* every velocity by so many further, and after 127 from 1 on */
 
 /* The names of the 128 sounds: "36=kick 38=snare"; the others are empty. */
 struct names sound_names(const char *list);
@@ -29,7 +31,8 @@ const uint32_t *recorded(void);
  * after each, answers the map's sum. */
 void expect_saved(const char *note, uint32_t id, uint32_t length, const struct hits *hits, pstp_reply want);
 void expect_erased(const char *note, uint32_t id, pstp_reply want);
-void expect_back(const char *note, uint32_t id, size_t sounds_room, size_t steps_room, const struct hits *answer, pstp_reply want);
+void expect_back(const char *note, uint32_t id, size_t sounds_room, size_t steps_room, size_t velocities_room, const struct hits *answer,
+                 pstp_reply want);
 void expect_segment(const char *note, const struct names *names, size_t room, const uint8_t *answer, pstp_reply want);
 
 /* Writing out is what the writer does with the map's lists, for every room around what is needed. The reply with all the room. */

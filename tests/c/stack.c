@@ -26,12 +26,12 @@ static uint32_t posting_counts[128], posting_ids[384], position_counts[384], pos
 /* A MIDI file with hits of all 128 notes on the first steps of two bars, and its lists. */
 static struct bytes file;
 static uint32_t bars[2], lengths[2], name_ends[128], bar_counts[128], bar_ids[256], step_counts[256], steps[256];
-static uint8_t sounds[512], sheet[81 * 129];
+static uint8_t sounds[512], loud[256], sheet[81 * 129];
 
 static void make_file(void) {
     file = midi(4, "00 90 00 01");
     for (int i = 0; i < 256; i++) {
-        const uint8_t hit[] = {i == 128 ? 16 : 0, (uint8_t)(i % 128), 1};
+        const uint8_t hit[] = {i == 128 ? 16 : 0, (uint8_t)(i % 128), (uint8_t)(1 + i % 127)};
         append(&file, hit, 3);
     }
     close_track(&file);
@@ -39,31 +39,32 @@ static void make_file(void) {
 
 /* A pad of all 128 sounds, on 48 steps of bar 1 and 15 of bar 2; a bar of 64 hits more fits twice. */
 static uint32_t pad[PSTP_PAD_WORDS], hit_steps[6144];
-static uint8_t hit_sounds[6144], pad_segment[16384];
+static uint8_t hit_sounds[6144], hit_loud[6144], pad_segment[16384];
 
 static void make_hits(size_t n, uint32_t steps_of_each) {
     for (size_t i = 0; i < n; i++) {
         hit_sounds[i] = (uint8_t)(i / steps_of_each);
         hit_steps[i] = (uint32_t)(i % steps_of_each);
+        hit_loud[i] = (uint8_t)(1 + i % 127);
     }
 }
 
 static void make_pad(void) {
     make_hits(6144, 48);
-    pstp_pad_save(pad, PSTP_PAD_WORDS, 1, 48, hit_sounds, 6144, hit_steps, 6144);
+    pstp_pad_save(pad, PSTP_PAD_WORDS, 1, 48, hit_sounds, 6144, hit_steps, 6144, hit_loud, 6144);
     make_hits(1920, 15);
-    pstp_pad_save(pad, PSTP_PAD_WORDS, 2, 15, hit_sounds, 1920, hit_steps, 1920);
+    pstp_pad_save(pad, PSTP_PAD_WORDS, 2, 15, hit_sounds, 1920, hit_steps, 1920, hit_loud, 1920);
 }
 
 static void pad_save(void) {
     make_hits(64, 1);
-    reply = pstp_pad_save(pad, PSTP_PAD_WORDS, room > 0 ? 0 : 3, 1, hit_sounds, 64, hit_steps, 64);
+    reply = pstp_pad_save(pad, PSTP_PAD_WORDS, room > 0 ? 0 : 3, 1, hit_sounds, 64, hit_steps, 64, hit_loud, 64);
 }
 static void pad_erase(void) {
     reply = pstp_pad_erase(pad, PSTP_PAD_WORDS, room > 0 ? 0 : 3);
 }
 static void pad_read(void) {
-    reply = pstp_pad_read(pad, PSTP_PAD_WORDS, 1, hit_sounds, room > 0 ? 6144 : 0, hit_steps, 6144);
+    reply = pstp_pad_read(pad, PSTP_PAD_WORDS, 1, hit_sounds, room > 0 ? 6144 : 0, hit_steps, 6144, hit_loud, 6144);
 }
 static void pad_write(void) {
     reply = pstp_pad_write(pad, PSTP_PAD_WORDS, text, 256, ends, 128, pad_segment, room > 0 ? sizeof pad_segment : 0);
@@ -89,7 +90,7 @@ static void length_of(void) {
 static void midi_bars(void) {
     size_t whole = room > 0;
     reply = pstp_midi_bars(file.at, file.len, bars, 2 * whole, lengths, 2 * whole, sounds, 512 * whole, name_ends, 128 * whole, bar_counts,
-                           128 * whole, bar_ids, 256 * whole, step_counts, 256 * whole, steps, 256 * whole);
+                           128 * whole, bar_ids, 256 * whole, step_counts, 256 * whole, steps, 256 * whole, loud, 256 * whole);
 }
 
 static void make_segment(void) {
