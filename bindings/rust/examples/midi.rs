@@ -1,4 +1,5 @@
-//! Reads the bars of a drummer's MIDI file, writes them as a segment, and asks in which bars the snare follows the kick.
+//! Reads the bars of a drummer's MIDI file, how loud each hit is, writes them as a segment, and asks in which bars the snare follows the
+//! kick.
 
 use pstp::{midi_bars, write_positional_segment, Error, RawPositionalSegment};
 
@@ -21,10 +22,13 @@ fn main() -> Result<(), Error> {
     let bars = midi_bars(FILE)?;
     let bytes = write_positional_segment(&bars.document_lengths(), &bars.terms())?;
 
+    let mut velocities = bars.velocities();
     for sound in bars.terms() {
         for posting in sound.postings {
+            let (own, rest) = velocities.split_at(posting.positions.len());
+            velocities = rest;
             println!(
-                "{}: bar {} on {:?}",
+                "{}: bar {} on {:?}, velocities {own:?}",
                 sound.term, posting.doc_id, posting.positions
             );
         }

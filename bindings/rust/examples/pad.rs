@@ -1,4 +1,5 @@
-//! Records three bars on a pad, erases one, writes the others as a segment, and asks in which of them the snare follows the kick.
+//! Records three bars on a pad, erases one, reads one back with its accents, writes the others as a segment, and asks in which of them the
+//! snare follows the kick.
 
 use pstp::{Error, Hit, Pad, RawPositionalSegment};
 
@@ -6,11 +7,20 @@ use pstp::{Error, Hit, Pad, RawPositionalSegment};
 const KICK: u8 = 36;
 const SNARE: u8 = 38;
 
-/// Hits by sound, then step.
+/// Hits by sound, then step, the first step of a sound with an accent.
 fn bar(kicks: &[u32], snares: &[u32]) -> Vec<Hit> {
-    let of = |sound| move |&step: &u32| Hit { sound, step };
-    let kicks = kicks.iter().map(of(KICK));
-    kicks.chain(snares.iter().map(of(SNARE))).collect()
+    let mut hits = Vec::new();
+    for (sound, steps) in [(KICK, kicks), (SNARE, snares)] {
+        for (i, &step) in steps.iter().enumerate() {
+            let velocity = if i == 0 { 127 } else { 90 };
+            hits.push(Hit {
+                sound,
+                step,
+                velocity,
+            });
+        }
+    }
+    hits
 }
 
 fn main() -> Result<(), Error> {
@@ -25,6 +35,18 @@ fn main() -> Result<(), Error> {
     println!("bar 5: {}", pad.read(5).unwrap_err());
     let kept = pad.read(7)?;
     println!("bar 7: {} steps, {} hits", kept.length, kept.hits.len());
+    for hit in &kept.hits {
+        println!("  {} on {}, velocity {}", hit.sound, hit.step, hit.velocity);
+    }
+    let silent = pad.save(
+        6,
+        16,
+        &[Hit {
+            velocity: 0,
+            ..kept.hits[0]
+        }],
+    );
+    println!("a silent hit: {}", silent.unwrap_err());
 
     let mut names = [""; Pad::SOUNDS];
     names[usize::from(KICK)] = "kick";

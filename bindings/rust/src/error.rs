@@ -58,6 +58,8 @@ pub enum Error {
     BrokenPad,
     /// In a list of ids, the one at this index, from 0, is the first that is not above the one before it.
     IdsNotRising(usize),
+    /// A hit to save has a velocity that is not 1 to 127.
+    VelocityRange,
 }
 
 /// Sections, from 1.
@@ -135,6 +137,7 @@ impl Error {
             19 => Error::PadFull,
             20 => Error::BrokenPad,
             21 => Error::IdsNotRising(index),
+            22 => Error::VelocityRange,
             _ => return None,
         })
     }
@@ -196,6 +199,7 @@ impl fmt::Display for Error {
             Error::IdsNotRising(index) => {
                 write!(f, "the id at index {index} is not above the one before it")
             }
+            Error::VelocityRange => write!(f, "a velocity is not 1 to 127"),
         }
     }
 }
@@ -247,6 +251,7 @@ mod tests {
             ((19, 0, 0), Error::PadFull),
             ((20, 0, 0), Error::BrokenPad),
             ((21, 0, 16_777_215), Error::IdsNotRising(16_777_215)),
+            ((22, 0, 0), Error::VelocityRange),
         ];
         for ((kind, which, index), error) in cases {
             assert_eq!(Error::of_numbers(kind, which, index), Some(error));
@@ -257,7 +262,7 @@ mod tests {
     fn other_numbers_have_none() {
         for (kind, which, index) in [
             (0, 0, 0),
-            (22, 0, 0),
+            (23, 0, 0),
             (1, 0, 0),
             (5, 7, 0),
             (6, 0, 0),

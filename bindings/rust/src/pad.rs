@@ -8,13 +8,15 @@ use crate::sys;
 use crate::types::{DocId, TokenPos};
 use crate::Error;
 
-/// A hit of a bar. The order is that of a bar's hits: by sound, then step.
+/// A hit of a bar. The order is that of a bar's hits, by sound, then step; of two on one sound and step the softer comes first.
 #[derive(Clone, Copy, Debug, PartialEq, Eq, PartialOrd, Ord, Hash)]
 pub struct Hit {
     /// The sound's number, 0 to 127.
     pub sound: u8,
     /// The step, below the bar's length.
     pub step: TokenPos,
+    /// How loud it is, 1 to 127. A segment does not carry it.
+    pub velocity: u8,
 }
 
 /// A bar as a pad holds it.
@@ -34,10 +36,12 @@ pub struct Bar {
 /// use pstp::{Hit, Pad, RawPositionalSegment};
 ///
 /// let mut pad = Pad::new();
-/// pad.save(3, 16, &[Hit { sound: 36, step: 0 }, Hit { sound: 38, step: 1 }])?;
-/// pad.save(7, 16, &[Hit { sound: 36, step: 4 }])?;
+/// let accent = Hit { sound: 36, step: 0, velocity: 127 };
+/// pad.save(3, 16, &[accent, Hit { sound: 38, step: 1, velocity: 80 }])?;
+/// pad.save(7, 16, &[Hit { sound: 36, step: 4, velocity: 100 }])?;
 /// pad.erase(7)?;
 /// assert_eq!(pad.hits(), 2);
+/// assert_eq!(pad.read(3)?.hits[0], accent);
 ///
 /// let mut names = [""; Pad::SOUNDS];
 /// names[36] = "kick";
@@ -72,15 +76,17 @@ impl Pad {
 
     /// Save a bar under an id that is not held.
     ///
-    /// The hits rise strictly by sound, then step, which is what sorting them and leaving out equal ones does. A bar may have no hits, and
-    /// any id and length.
+    /// The hits rise strictly by sound, then step, which is what sorting them and leaving out all but one of those on the same sound and
+    /// step does. A bar may have no hits, and any id and length.
     ///
     /// The first that holds is the error: [`Error::AlreadyHeld`]; [`Error::TooLarge`] for over 16,777,216 hits, then for a sound above 127;
-    /// [`Error::InvalidLayout`] for hits that do not rise, then for a step that is not below the length; [`Error::PadFull`].
+    /// [`Error::VelocityRange`] for a velocity that is not 1 to 127; [`Error::InvalidLayout`] for hits that do not rise by sound, then
+    /// step, then for a step that is not below the length; [`Error::PadFull`].
     pub fn save(&mut self, id: DocId, length: u32, hits: &[Hit]) -> Result<(), Error> {
-        let (sounds, steps): (Vec<_>, Vec<_>) =
-            hits.iter().map(|hit| (hit.sound, hit.step)).unzip();
-        sys::pad_save(&mut self.words, id, length, &sounds, &steps).answer()?;
+        let sounds: Vec<_> = hits.iter().map(|hit| hit.sound).collect();
+        let steps: Vec<_> = hits.iter().map(|hit| hit.step).collect();
+        let velocities: Vec<_> = hits.iter().map(|hit| hit.velocity).collect();
+        sys::pad_save(&mut self.words, id, length, &sounds, &steps, &velocities).answer()?;
         Ok(())
     }
 
@@ -95,16 +101,23 @@ impl Pad {
         // No bar has more hits than all, so one call suffices.
         let mut sounds = vec![0; self.hits()];
         let mut steps = vec![0; self.hits()];
-        let (hits, length) = sys::pad_read(&self.words, id, &mut sounds, &mut steps).answer()?;
-        let hits = sounds.into_iter().zip(steps).take(hits as usize);
+        let mut velocities = vec![0; self.hits()];
+        let reply = sys::pad_read(&self.words, id, &mut sounds, &mut steps, &mut velocities);
+        let (hits, length) = reply.answer()?;
+        let places = sounds.into_iter().zip(steps).zip(velocities);
+        let hit = |((sound, step), velocity)| Hit {
+            sound,
+            step,
+            velocity,
+        };
         Ok(Bar {
             length: length as u32,
-            hits: hits.map(|(sound, step)| Hit { sound, step }).collect(),
+            hits: places.take(hits as usize).map(hit).collect(),
         })
     }
 
     /// Write the pad as a segment: what [`write_positional_segment`](crate::write_positional_segment) makes of the bars by rising id and
-    /// the sounds by rising number. Sounds without hits are left out.
+    /// the sounds by rising number. Sounds without hits are left out, and so are the velocities: what is written does not depend on them.
     ///
     /// The names are those of the sounds by number. Of sounds without hits they may be anything, such as empty; the others are not empty
     /// and rise strictly in byte order, or the error is [`Error::InvalidLayout`]. All names together have at most 16,777,216 bytes, or it
@@ -126,10 +139,11 @@ impl Pad {
         &self.words
     }
 
-    /// Take up a pad by its words. Words that no pad can have, or another number of them, are [`Error::BrokenPad`].
+    /// Take up a pad by its words. Words that no pad can have, or another number of them, are [`Error::BrokenPad`]; so are those of a pad
+    /// with hits that was recorded before hits had velocities.
     pub fn from_words(words: &[u32]) -> Result<Self, Error> {
         // All calls but `hits` test the words before all else, and this one changes nothing.
-        match sys::pad_read(words, 0, &mut [], &mut []).answer() {
+        match sys::pad_read(words, 0, &mut [], &mut [], &mut []).answer() {
             Err(Error::BrokenPad) => Err(Error::BrokenPad),
             _ => Ok(Self {
                 words: words.into(),

@@ -2,7 +2,7 @@
 
 mod common;
 
-use std::collections::BTreeSet;
+use std::collections::{BTreeMap, BTreeSet};
 
 use common::Random;
 use pstp::{
@@ -33,10 +33,13 @@ fn sounds(bars: &MidiBars) -> Sounds {
         .collect()
 }
 
-/// The same of hits, by note and step.
-fn sounds_of(hits: &BTreeSet<(u8, u64)>) -> Sounds {
+/// Hits by note and step, each with the velocity of the loudest.
+type Hits = BTreeMap<(u8, u64), u8>;
+
+/// The same of hits.
+fn sounds_of(hits: &Hits) -> Sounds {
     let mut sounds: Sounds = Vec::new();
-    for &(note, step) in hits {
+    for &(note, step) in hits.keys() {
         let (name, bar) = (format!("n{note:03}"), step as u32 / 16);
         if sounds.last().is_none_or(|(last, _)| *last != name) {
             sounds.push((name, Vec::new()));
@@ -63,6 +66,7 @@ fn a_groove() {
         ("n042".into(), vec![(0, vec![2])]),
     ];
     assert_eq!(sounds(&bars), want);
+    assert_eq!(bars.velocities(), [100, 90, 127, 110, 40, 80]);
     let bytes = write_positional_segment(&bars.document_lengths(), &bars.terms()).unwrap();
     let segment = RawPositionalSegment::open(&bytes).unwrap();
     let phrase = |names: &[&str]| segment.phrase_match_strs(names).unwrap();
@@ -72,10 +76,31 @@ fn a_groove() {
 }
 
 #[test]
+fn the_loudest_of_equal_hits() {
+    let events = b"\0\xF0\x03\x7E\x09\xF7\0\x90\x26\x14\0\x99\x26\x50\0\x26\x32\0\x24\x40\x23\x26\x01\0\xFF\x2F\0";
+    let bars = midi_bars(&file(4, events)).unwrap();
+    let want = [
+        ("n036".into(), vec![(0, vec![0])]),
+        ("n038".into(), vec![(0, vec![0]), (2, vec![3])]),
+    ];
+    assert_eq!(sounds(&bars), want);
+    assert_eq!(bars.velocities(), [64, 80, 1]);
+    // What is written does not tell how loud it was.
+    let softer = b"\0\x90\x24\x01\0\x26\x01\x23\x26\x7F\0\xFF\x2F\0";
+    let softer = midi_bars(&file(4, softer)).unwrap();
+    assert_eq!(softer.velocities(), [1, 1, 127]);
+    let written =
+        |bars: &MidiBars| write_positional_segment(&bars.document_lengths(), &bars.terms());
+    assert_eq!(written(&softer), written(&bars));
+    assert_ne!(softer, bars);
+}
+
+#[test]
 fn no_hits() {
     let bars = midi_bars(&file(32764, b"\0\xFF\x2F\0")).unwrap();
     assert_eq!(bars.document_lengths(), []);
     assert_eq!(bars.terms(), []);
+    assert_eq!(bars.velocities(), []);
 }
 
 #[test]
@@ -83,6 +108,7 @@ fn the_last_bar() {
     let bars = midi_bars(&file(4, b"\xBF\xFF\x7F\x90\x24\x40\0\xFF\x2F\0")).unwrap();
     assert_eq!(bars.document_lengths().len(), 65_536);
     assert_eq!(sounds(&bars), [("n036".into(), vec![(65_535, vec![15])])]);
+    assert_eq!(bars.velocities(), [0x40]);
     let further = file(4, b"\xC0\x80\0\x90\x24\x40\0\xFF\x2F\0");
     assert_eq!(midi_bars(&further).unwrap_err(), Error::BarTooFar);
 }
@@ -133,12 +159,12 @@ fn number(random: &mut Random, value: u32) -> Vec<u8> {
         .collect()
 }
 
-/// A file by its events, and its hits as notes with steps.
-fn some_file(random: &mut Random) -> (Vec<u8>, BTreeSet<(u8, u64)>) {
+/// A file by its events, and its hits.
+fn some_file(random: &mut Random) -> (Vec<u8>, Hits) {
     let division = [4, 8, 96, 480, 32764][random.below(5) as usize];
     let quarter = u64::from(division) / 4;
     let notes = 1 + random.below(3);
-    let (mut events, mut hits) = (Vec::new(), BTreeSet::new());
+    let (mut events, mut hits) = (Vec::new(), Hits::new());
     let (mut tick, mut running) = (0, None);
     for _ in 0..random.below(90) {
         let delta = random.below(quarter as u32 * 2) * random.below(3);
@@ -164,10 +190,12 @@ fn some_file(random: &mut Random) -> (Vec<u8>, BTreeSet<(u8, u64)>) {
             events.extend(random.bytes(1, 128));
             continue;
         }
-        let (note, velocity) = (36 + random.below(notes) as u8, random.below(4) as u8 * 40);
+        let note = 36 + random.below(notes) as u8;
+        let velocity = (random.below(128) * random.below(4).min(1)) as u8;
         events.extend([note, velocity]);
         if kind == 9 && velocity > 0 {
-            hits.insert((note, tick / quarter));
+            let loudest = hits.entry((note, tick / quarter)).or_insert(0);
+            *loudest = velocity.max(*loudest);
         }
     }
     events.extend(b"\0\xFF\x2F\0");
@@ -175,11 +203,11 @@ fn some_file(random: &mut Random) -> (Vec<u8>, BTreeSet<(u8, u64)>) {
 }
 
 /// The bars in which the file's own notes are on consecutive steps, none beyond a bar line.
-fn phrase(hits: &BTreeSet<(u8, u64)>, notes: &[u8]) -> Vec<u32> {
-    let starts = hits.iter().filter(|&&(note, _)| note == notes[0]);
+fn phrase(hits: &Hits, notes: &[u8]) -> Vec<u32> {
+    let starts = hits.keys().filter(|&&(note, _)| note == notes[0]);
     let all = |&&(_, first): &&(u8, u64)| {
         let mut steps = notes.iter().zip(first..);
-        steps.all(|(&note, step)| hits.contains(&(note, step)) && step / 16 == first / 16)
+        steps.all(|(&note, step)| hits.contains_key(&(note, step)) && step / 16 == first / 16)
     };
     let bars: BTreeSet<_> = starts.filter(all).map(|(_, first)| first / 16).collect();
     bars.into_iter().map(|bar| bar as u32).collect()
@@ -192,11 +220,12 @@ fn random_files() {
     for _ in 0..3000 {
         let (file, hits) = some_file(&mut random);
         let bars = midi_bars(&file).unwrap();
-        let count = hits.iter().map(|&(_, step)| step as u32 / 16 + 1).max();
+        let count = hits.keys().map(|&(_, step)| step as u32 / 16 + 1).max();
         let documents: Vec<_> = (0..count.unwrap_or(0)).map(|bar| (bar, 16)).collect();
         assert_eq!(bars.document_lengths(), documents);
 
         assert_eq!(sounds(&bars), sounds_of(&hits));
+        assert!(hits.values().eq(bars.velocities()));
 
         let bytes = write_positional_segment(&documents, &bars.terms()).unwrap();
         let segment = RawPositionalSegment::open(&bytes).unwrap();

@@ -1,27 +1,24 @@
-//! Bars recorded on a pad: the worked examples, refusals under their names, stored words, and random calls beside a plain map.
+//! Bars recorded on a pad: the worked examples, refusals under their names, velocities, stored words.
 
 mod common;
 
-use std::collections::BTreeMap;
+use common::{two_bars, write};
+use pstp::{Bar, Error, Hit, Pad, RawPositionalSegment};
 
-use common::{two_bars, write, Random};
-use pstp::{
-    write_positional_segment, Bar, Error, Hit, Pad, PositionalPosting, PositionalTermPostings,
-    RawPositionalSegment,
-};
-
+/// Hits side by side have different velocities.
 fn hits(list: &[(u8, u32)]) -> Vec<Hit> {
-    let hit = |&(sound, step)| Hit { sound, step };
+    let hit = |&(sound, step)| Hit {
+        sound,
+        step,
+        velocity: 1 + ((31 * u32::from(sound) + 17 * (step % 127)) % 127) as u8,
+    };
     list.iter().map(hit).collect()
 }
 
 /// So many hits: sound 0 on steps 0 to 63, then sound 1, and so on.
 fn grid(n: u32) -> Vec<Hit> {
-    let hit = |i| Hit {
-        sound: (i / 64) as u8,
-        step: i % 64,
-    };
-    (0..n).map(hit).collect()
+    let places: Vec<_> = (0..n).map(|i| ((i / 64) as u8, i % 64)).collect();
+    hits(&places)
 }
 
 fn named<'a>(list: &[(usize, &'a str)]) -> [&'a str; Pad::SOUNDS] {
@@ -94,6 +91,40 @@ fn what_saving_refuses() {
 }
 
 #[test]
+fn velocities() {
+    let mut pad = Pad::new();
+    let played = |list: &[(u8, u32, u8)]| -> Vec<Hit> {
+        let hit = |&(sound, step, velocity)| Hit {
+            sound,
+            step,
+            velocity,
+        };
+        list.iter().map(hit).collect()
+    };
+    let bar = played(&[(36, 0, 127), (36, 4, 1)]);
+    pad.save(1, 8, &bar).unwrap();
+    let falls = Error::InvalidLayout("positions must be increasing");
+    let mut refused = |list: &[(u8, u32, u8)]| pad.save(2, 8, &played(list)).unwrap_err();
+    for velocity in (0..=255).filter(|v| !(1..=127).contains(v)) {
+        assert_eq!(refused(&[(36, 0, velocity)]), Error::VelocityRange);
+    }
+    assert_eq!(refused(&[(36, 0, 128), (128, 0, 64)]), Error::TooLarge);
+    assert_eq!(refused(&[(36, 4, 64), (36, 0, 0)]), Error::VelocityRange);
+    assert_eq!(refused(&[(36, 4, 64), (36, 4, 65)]), falls);
+    assert_eq!(pad.read(1).unwrap().hits, bar);
+
+    // What is written does not tell how loud it was.
+    let mut even = Pad::new();
+    even.save(1, 8, &played(&[(36, 0, 90), (36, 4, 90)]))
+        .unwrap();
+    assert_ne!(even.as_words(), pad.as_words());
+    let names = named(&[(36, "kick")]);
+    assert_eq!(even.write(&names), pad.write(&names));
+    assert_eq!(pad.write(&names).unwrap().len(), 114);
+    assert_eq!(even.write(&named(&[])), pad.write(&named(&[])));
+}
+
+#[test]
 fn room_in_pieces() {
     let mut pad = Pad::new();
     for id in 0..64 {
@@ -128,11 +159,12 @@ fn most_bars_and_hits() {
     assert_eq!(pad.hits(), 8192);
     assert_eq!(pad.erase(u32::MAX).unwrap(), 8192);
     assert_eq!(pad.save(255, 64, &grid(8193)).unwrap_err(), Error::TooLarge);
-    let long: Vec<_> = (0..8193).map(|step| Hit { sound: 127, step }).collect();
+    let long: Vec<_> = (0..8193).map(|step| (127, step)).collect();
+    let long = hits(&long);
     assert_eq!(pad.save(255, 8193, &long).unwrap_err(), Error::PadFull);
     pad.save(255, 8193, &long[1..]).unwrap();
     assert_eq!(pad.read(255).unwrap().hits, long[1..]);
-    let many = vec![Hit { sound: 0, step: 0 }; 16_777_217];
+    let many = vec![hits(&[(0, 0)])[0]; 16_777_217];
     assert_eq!(pad.save(256, 1, &many).unwrap_err(), Error::TooLarge);
 }
 
@@ -173,6 +205,8 @@ fn stored_words() {
     let words = pad.as_words();
     assert_eq!(words.len(), Pad::WORDS);
     assert_eq!(words[..5], [2, 8, 3, 16, 5]);
+    let first = hits(&BAR_3)[0];
+    assert_eq!(words[5], 36 + 256 * u32::from(first.velocity));
     let mut again = Pad::from_words(words).unwrap();
     assert_eq!(again.as_words(), words);
     assert_eq!(again.erase(3).unwrap(), 5);
@@ -189,14 +223,18 @@ fn stored_words() {
         assert_eq!(broken(&words[..len]), Error::BrokenPad);
     }
     assert_eq!(broken(&[0; 17_155]), Error::BrokenPad);
-    // Bars, hits, an id, a length, a number of hits, a sound and a step.
+    // Bars, hits, an id, a length, a number of hits, sounds, velocities and a step.
     let faults = [
         (0, 257),
         (1, 7),
         (15, 3),
         (3, 15),
         (4, u32::MAX),
-        (5, 128),
+        (5, 128 + 256),
+        (5, 36),
+        (5, 36 + 256 * 128),
+        (5, 36 + 256 * 257),
+        (5, u32::MAX),
         (6, 4),
     ];
     for (at, word) in faults {
@@ -207,6 +245,12 @@ fn stored_words() {
     free[24..].fill(u32::MAX);
     assert_eq!(Pad::from_words(&free).unwrap().read(7), pad.read(7));
     assert!(Pad::from_words(&[0; Pad::WORDS]).is_ok());
+    // Recorded before hits had velocities.
+    let mut old = vec![0; Pad::WORDS];
+    old[..8].copy_from_slice(&[2, 0, 3, 16, 0, 7, 16, 0]);
+    assert_eq!(Pad::from_words(&old).unwrap().read(7).unwrap().length, 16);
+    old[..7].copy_from_slice(&[1, 1, 3, 16, 1, 36, 0]);
+    assert_eq!(broken(&old), Error::BrokenPad);
 }
 
 #[test]
@@ -215,100 +259,9 @@ fn texts() {
         (Error::AlreadyHeld, "the pad already holds a bar of this id"),
         (Error::PadFull, "the pad has no room for the bar"),
         (Error::BrokenPad, "the words are no pad"),
+        (Error::VelocityRange, "a velocity is not 1 to 127"),
     ];
     for (error, text) in texts {
         assert_eq!(error.to_string(), text);
     }
-}
-
-type Map = BTreeMap<u32, Bar>;
-
-fn hits_in(map: &Map) -> usize {
-    map.values().map(|bar| bar.hits.len()).sum()
-}
-
-/// The map as the writer takes it.
-fn written(map: &Map, names: &[&str; Pad::SOUNDS]) -> Result<Vec<u8>, Error> {
-    let mut sounds: BTreeMap<u8, BTreeMap<u32, Vec<u32>>> = BTreeMap::new();
-    for (&id, bar) in map {
-        for hit in &bar.hits {
-            let bars = sounds.entry(hit.sound).or_default();
-            bars.entry(id).or_default().push(hit.step);
-        }
-    }
-    let lengths: Vec<_> = map.iter().map(|(&id, bar)| (id, bar.length)).collect();
-    let mut terms = Vec::new();
-    for (&sound, bars) in &sounds {
-        let posting = |(&doc_id, positions)| PositionalPosting { doc_id, positions };
-        let bars = bars.iter().map(|(id, steps)| (id, steps.as_slice()));
-        terms.push(PositionalTermPostings {
-            term: names[usize::from(sound)],
-            postings: bars.map(posting).collect(),
-        });
-    }
-    write_positional_segment(&lengths, &terms)
-}
-
-fn some_hits(random: &mut Random, length: u32) -> Vec<Hit> {
-    let n = random.below(60) * random.below(12);
-    let hit = |_| Hit {
-        sound: random.below(128) as u8,
-        step: random.below(length),
-    };
-    let mut hits: Vec<_> = (0..n).map(hit).collect();
-    hits.sort();
-    hits.dedup();
-    hits
-}
-
-#[test]
-fn random_calls() {
-    let mut random = Random(0x9E37_79B9_7F4A_7C15);
-    let texts: Vec<_> = (0..128).map(|sound| format!("n{sound:03}")).collect();
-    let names: Vec<_> = texts.iter().map(String::as_str).collect();
-    let names: [&str; Pad::SOUNDS] = names.try_into().unwrap();
-    let (mut pad, mut map) = (Pad::new(), Map::new());
-    let (mut full, mut compared) = (0, 0);
-    for i in 0..8_000 {
-        let ids = if i < 4_000 { 70 } else { 700 };
-        let id = random.below(ids) * 6_000_000;
-        if random.below(5) < 2 {
-            let want = map.remove(&id).ok_or(Error::UnknownBar);
-            assert_eq!(pad.erase(id), want.map(|bar| bar.hits.len()));
-        } else {
-            let length = 1 + random.below(100);
-            let few = ids == 700;
-            let hits = if few {
-                vec![]
-            } else {
-                some_hits(&mut random, length)
-            };
-            let held = hits_in(&map);
-            let want = if map.contains_key(&id) {
-                Err(Error::AlreadyHeld)
-            } else if map.len() == Pad::BARS || held + hits.len() > Pad::HITS {
-                full += 1;
-                Err(Error::PadFull)
-            } else {
-                map.insert(
-                    id,
-                    Bar {
-                        length,
-                        hits: hits.clone(),
-                    },
-                );
-                Ok(())
-            };
-            assert_eq!(pad.save(id, length, &hits), want);
-        }
-        assert_eq!(pad.hits(), hits_in(&map));
-        let id = random.below(ids) * 6_000_000;
-        assert_eq!(pad.read(id).ok().as_ref(), map.get(&id));
-        if i % 20 == 0 {
-            assert_eq!(pad.write(&names), written(&map, &names));
-            compared += 1;
-        }
-    }
-    assert!(full > 500, "{full} times no room");
-    println!("{full} times no room, {compared} segments compared");
 }

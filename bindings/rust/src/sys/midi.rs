@@ -23,11 +23,13 @@ extern "C" {
         position_counts_len: usize,
         positions: *mut u32,
         positions_len: usize,
+        velocities: *mut u8,
+        velocities_len: usize,
     ) -> Reply;
 }
 
-pub(crate) fn midi_bars(file: &[u8], lists: &mut Lists) -> Reply {
-    // SAFETY: a slice that is only read, and eight lent ones, apart from it by `&mut` and from each other as vectors of their own.
+pub(crate) fn midi_bars(file: &[u8], lists: &mut Lists, velocities: &mut [u8]) -> Reply {
+    // SAFETY: a slice that is only read, and nine lent ones, apart from it by `&mut` and from each other as vectors of their own.
     unsafe {
         pstp_midi_bars(
             file.as_ptr(),
@@ -48,6 +50,8 @@ pub(crate) fn midi_bars(file: &[u8], lists: &mut Lists) -> Reply {
             lists.position_counts.len(),
             lists.positions.as_mut_ptr(),
             lists.positions.len(),
+            velocities.as_mut_ptr(),
+            velocities.len(),
         )
     }
 }

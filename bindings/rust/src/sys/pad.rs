@@ -13,6 +13,8 @@ extern "C" {
         sounds_len: usize,
         steps: *const u32,
         steps_len: usize,
+        velocities: *const u8,
+        velocities_len: usize,
     ) -> Reply;
     fn pstp_pad_erase(pad: *mut u32, pad_len: usize, id: u32) -> Reply;
     fn pstp_pad_read(
@@ -23,6 +25,8 @@ extern "C" {
         sounds_len: usize,
         steps: *mut u32,
         steps_len: usize,
+        velocities: *mut u8,
+        velocities_len: usize,
     ) -> Reply;
     fn pstp_pad_write(
         pad: *const u32,
@@ -43,8 +47,9 @@ pub(crate) fn pad_save(
     length: u32,
     sounds: &[u8],
     steps: &[u32],
+    velocities: &[u8],
 ) -> Reply {
-    // SAFETY: two slices that are only read, and one lent, apart from them by `&mut`.
+    // SAFETY: three slices that are only read, and one lent, apart from them by `&mut`.
     unsafe {
         pstp_pad_save(
             pad.as_mut_ptr(),
@@ -55,6 +60,8 @@ pub(crate) fn pad_save(
             sounds.len(),
             steps.as_ptr(),
             steps.len(),
+            velocities.as_ptr(),
+            velocities.len(),
         )
     }
 }
@@ -64,8 +71,14 @@ pub(crate) fn pad_erase(pad: &mut [u32], id: u32) -> Reply {
     unsafe { pstp_pad_erase(pad.as_mut_ptr(), pad.len(), id) }
 }
 
-pub(crate) fn pad_read(pad: &[u32], id: u32, sounds: &mut [u8], steps: &mut [u32]) -> Reply {
-    // SAFETY: a slice that is only read, and two lent, apart from it and from each other by `&mut`.
+pub(crate) fn pad_read(
+    pad: &[u32],
+    id: u32,
+    sounds: &mut [u8],
+    steps: &mut [u32],
+    velocities: &mut [u8],
+) -> Reply {
+    // SAFETY: a slice that is only read, and three lent, apart from it and from each other by `&mut`.
     unsafe {
         pstp_pad_read(
             pad.as_ptr(),
@@ -75,6 +88,8 @@ pub(crate) fn pad_read(pad: &[u32], id: u32, sounds: &mut [u8], steps: &mut [u32
             sounds.len(),
             steps.as_mut_ptr(),
             steps.len(),
+            velocities.as_mut_ptr(),
+            velocities.len(),
         )
     }
 }
