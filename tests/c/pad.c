@@ -15,18 +15,21 @@ static void save(const char *note, uint32_t id, uint32_t length, const char *lis
     expect_saved(note, id, length, &h, accepted(h.sounds_len, 0));
 }
 
-/* Document 01's bars to try. Sound 36 is the kick, 38 the snare. */
+/* Document 01's bars to try. Sound 36 is the kick, 38 the snare. The words are those of docs/FORMAT.md. */
 static void test_two_bars(bool zeros) {
+    static const uint32_t words[] = {2, 8, 3, 16, 5, 32548, 0, 23076, 4, 23076, 15, 28198, 8, 17958, 14,
+                                     7, 16, 3, 25636, 2, 20518, 3, 32550, 4};
     const char *note = "the two bars on a pad";
     struct bytes segment = two_bars();
     struct names names = sound_names("36=kick 38=snare");
-    struct hits bar_3 = hits("36:0 36:4 36:15 38:8 38:14");
+    struct hits bar_3 = hits("36:0@127 36:4@90 36:15@90 38:8@110 38:14@70");
     new_pad(zeros);
     expect_hits("no hits on an empty pad", 0);
-    save(note, 7, 16, "36:2 38:3 38:4");
+    save(note, 7, 16, "36:2@100 38:3@80 38:4@127");
     expect_hits("3 hits of bar 7", 3);
-    save(note, 3, 16, "36:0 36:4 36:15 38:8 38:14");
+    expect_saved(note, 3, 16, &bar_3, accepted(5, 0));
     expect_hits("5 more of bar 3", 8);
+    expect("the two bars word by word", memcmp(recorded(), words, sizeof words) == 0);
     for (size_t room = 0; room < 8 * 8 * 8; room++) {
         size_t sounds = room % 8, steps = room / 8 % 8, velocities = room / 64;
         pstp_reply none = refused(PSTP_NO_ROOM, sounds < 5 ? 1 : steps < 5 ? 2 : 3, 5);
