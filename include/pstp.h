@@ -511,8 +511,8 @@ pstp_reply pstp_pad_read(const uint32_t *pad, size_t pad_len, uint32_t id, uint8
                          size_t steps_len, uint8_t *velocities, size_t velocities_len);
 
 /* Writes the pad out as a segment to the beginning of out: what pstp_write_positional_segment writes for its bars, by increasing id, and
- * its sounds, by increasing number. A sound without hits is left out, and so are the velocities: neither the bytes nor a refusal depends on
- * them.
+ * its sounds, by increasing number. A sound without hits is left out, and so are the velocities: neither the bytes nor a refusal behind 20
+ * depends on them.
  * first: the segment's length in bytes.
  *
  *  text, ends  the names of the 128 sounds by number, laid out as the names of a question. A name of a sound without hits may be
