@@ -45,6 +45,9 @@ static void test_one_bar(bool zeros) {
     const pstp_reply full = refused(PSTP_PAD_FULL, 0, 0);
     new_pad(zeros);
     expect_saved("8,193 hits", 5, 100, &over, full);
+    over.velocities[8192] ^= 128;
+    expect_saved("8,193 hits, a velocity above 127 and nothing else", 5, 100, &over, refused(PSTP_VELOCITY_RANGE, 0, 0));
+    over.velocities[8192] ^= 128;
     expect_saved("8,193 hits, the last step not below the length", 5, 99, &over, refused(PSTP_INVALID_LAYOUT, 21, 0));
     over.steps[8192] = over.steps[8191];
     expect_saved("8,193 hits, the last two equal", 5, 100, &over, refused(PSTP_INVALID_LAYOUT, 20, 0));
@@ -80,6 +83,9 @@ static void test_full(bool zeros) {
     }
     expect("the last word is a step", recorded()[PSTP_PAD_WORDS - 2] % PSTP_PAD_VELOCITY == 31 && recorded()[PSTP_PAD_WORDS - 1] == 0);
     expect_saved("a bar too many, without hits", 1, 1, &none, full);
+    one.velocities[0] = 0;
+    expect_saved("a bar too many, with velocity 0", 1, 1, &one, refused(PSTP_VELOCITY_RANGE, 0, 0));
+    one = grid(1, 1);
     expect_saved("an id held in a full pad", 7, 1, &none, refused(PSTP_ALREADY_HELD, 0, 0));
     expect_map("256 bars");
     expect_erased("the first bar", 0, accepted(32, 0));
