@@ -2,9 +2,10 @@
 //! afterwards, and every word of the pad.
 
 use super::call::{Call, Slices};
-use super::model::{answer, hits_in, reply, Change, Map, Told, BARS, HITS};
+use super::model::{answer, hits_in, reply, Answer, Change, Map, Told, BARS, HITS};
 use super::shrink::Kept;
 use super::tally::Tally;
+use super::velocities;
 use super::words::{stored_over, Held, WORDS};
 
 /// A pad's words, what they hold, and what became of it so far.
@@ -65,11 +66,14 @@ pub struct Pads {
     pub smallest: Option<Kept>,
     /// where the model itself is not what a worked example, a known damage or the words of a map say
     pub astray: Vec<String>,
+    /// the first two pads that differ in velocities alone and are not written out alike
+    pub unlike: Option<String>,
 }
 
 impl Pads {
     pub fn new() -> Self {
-        Pads { slices: Slices::new(), tally: Tally::new(), differences: 0, smallest: None, astray: Vec::new() }
+        let (slices, tally) = (Slices::new(), Tally::new());
+        Pads { slices, tally, differences: 0, smallest: None, astray: Vec::new(), unlike: None }
     }
 
     /// Makes the call on these words, which should then be this pad's; says what differs.
@@ -80,9 +84,10 @@ impl Pads {
         let ([reply, hits], now) = self.slices.ask(words, call);
         let place = (0..after.len()).find(|i| now[*i] != after[*i]).filter(|_| now != after);
         let changed = place.map(|i| format!("word {i} is {}, the model's {}, before the call {}\n", now[i], after[i], words[i]));
-        let (sounds, steps, bytes) = told.as_ref().map_or((&[][..], &[][..], &[][..]), |a| (&a.sounds, &a.steps, &a.bytes));
-        let Slices { sounds: s, steps: t, out, given_left, .. } = &self.slices;
-        let held = s.holds(sounds) && t.holds(steps) && out.holds(bytes);
+        let nothing = Answer::default();
+        let Answer { sounds, steps, velocities, bytes, .. } = told.as_ref().unwrap_or(&nothing);
+        let Slices { sounds: s, steps: t, velocities: v, out, given_left, .. } = &self.slices;
+        let held = s.holds(sounds) && t.holds(steps) && v.holds(velocities) && out.holds(bytes);
         if reply == expected && hits == expected_hits && held && *given_left && changed.is_none() {
             return None;
         }
@@ -95,8 +100,9 @@ impl Pads {
             said += "what is only read is written to\n";
         }
         if !held {
-            let lent = (s.now(), t.now(), &out.now()[..out.now().len().min(512)]);
-            said += &format!("lent places afterwards: {lent:x?}\nthe model's answer: {sounds:x?} {steps:x?} {bytes:x?}\n");
+            let lent = (s.now(), t.now(), v.now(), &out.now()[..out.now().len().min(512)]);
+            let answer = (sounds, steps, velocities, bytes);
+            said += &format!("lent places afterwards: {lent:x?}\nthe model's answer: {answer:x?}\n");
         }
         Some(said)
     }
@@ -115,7 +121,22 @@ impl Pads {
                 self.smallest = Some(kept);
             }
         }
+        self.whatever_the_velocities(pad, call, &told);
         told
+    }
+
+    /// Writes out also from the pad with other velocities, and compares what the library then does with what it did.
+    fn whatever_the_velocities(&mut self, pad: &Pad, call: &Call, told: &Told) {
+        if !matches!(call, Call::Write { .. }) || pad.held.broken.is_some() || hits_in(pad.map()) == 0 {
+            return;
+        }
+        match velocities::differ(&mut self.slices, &pad.words, pad.map(), call) {
+            Some(said) => {
+                self.differences += 1;
+                self.unlike.get_or_insert(said);
+            }
+            None => self.tally.count_alike(told),
+        }
     }
 
     /// The model's own words for its map have to hold that map.

@@ -1,6 +1,6 @@
 //! Where one test meets another, and the numbers at their ends: every choice of faults of a save, slices of other lengths, every damage.
 
-use super::call::Call;
+use super::call::{Call, Lists};
 use super::compare::{Pad, Pads};
 use super::damage::{damaged, Known, KINDS};
 use super::model::{Bar, Hit, Map, BARS, HITS, LARGEST};
@@ -22,9 +22,9 @@ pub fn refused(kind: u32, which: u32, index: u64) -> Reply {
     Refusal::new(kind, which, index).into()
 }
 
-/// So many hits: sound 0 on every step, then sound 1, and so on.
+/// So many hits: sound 0 on every step, then sound 1, and so on; velocities 5 apart in the range from 1 to 127.
 pub fn grid(count: usize, length: u32) -> Vec<Hit> {
-    (0..count as u32).map(|i| ((i / length) as u8, i % length)).collect()
+    (0..count as u32).map(|i| ((i / length) as u8, i % length, 1 + (i * 5 % 127) as u8)).collect()
 }
 
 /// Bars from this id on, each with so many hits.
@@ -36,13 +36,13 @@ fn holding(map: &Map) -> Pad {
     Pad::holding(map, &[0; WORDS])
 }
 
-/// 20, 18, 11, 12, 6 20, 6 21 and 19: every choice of them at once gives the first.
+/// 20, 18, 11, 12, 22, 6 20, 6 21 and 19: every choice of them at once gives the first.
 fn all_faults(pads: &mut Pads) {
-    const REFUSALS: [(u32, u32); 7] = [(20, 0), (18, 0), (11, 0), (12, 0), (6, 20), (6, 21), (19, 0)];
+    const REFUSALS: [(u32, u32); 8] = [(20, 0), (18, 0), (11, 0), (12, 0), (22, 0), (6, 20), (6, 21), (19, 0)];
     for choice in 0..1usize << REFUSALS.len() {
         let fails = |i: usize| choice >> i & 1 == 1;
         for (full, bars_held, hits_held) in [(false, 1..3, 1), (true, 1..BARS as u32 + 1, 0), (true, 1..65, HITS / 64)] {
-            if full != fails(6) {
+            if full != fails(7) {
                 continue;
             }
             let mut pad = holding(&bars(bars_held, hits_held));
@@ -50,27 +50,37 @@ fn all_faults(pads: &mut Pads) {
                 pad.words[1] ^= 1;
                 pad = Pad::of(pad.words);
             }
-            let (mut sounds, mut steps) = (vec![5, 6, 7, 8], vec![0, 1, 2, 3]);
+            let mut lists = Lists::of(&[(5, 0, 1), (6, 1, 64), (7, 2, 127), (8, 3, 9)]);
             if fails(3) {
-                sounds[3] = 128;
-            }
-            if fails(4) {
-                sounds.swap(0, 1);
+                lists.sounds[3] = 128;
             }
             if fails(5) {
-                steps[2] = 4;
+                lists.sounds.swap(0, 1);
             }
-            for longer in 0..if fails(2) { 2 } else { 1 } {
-                let (mut sounds, mut steps) = (sounds.clone(), steps.clone());
-                match (fails(2), longer) {
-                    (false, _) => {}
-                    (true, 0) => sounds.push(127),
-                    _ => steps.push(3),
+            if fails(6) {
+                lists.steps[2] = 4;
+            }
+            // the velocity of each hit in turn; each list longer or shorter than the others
+            for (at, velocity) in [(0, 0), (1, 128), (2, 255), (3, 0), (3, 128)].into_iter().take(if fails(4) { 5 } else { 1 }) {
+                for other in 0..if fails(2) { 6 } else { 1 } {
+                    let mut lists = lists.clone();
+                    if fails(4) {
+                        lists.velocities[at] = velocity;
+                    }
+                    match other {
+                        _ if !fails(2) => {}
+                        0 => lists.sounds.push(127),
+                        1 => lists.steps.push(3),
+                        2 => lists.velocities.push(100),
+                        3 => drop(lists.sounds.remove(2)),
+                        4 => drop(lists.steps.remove(0)),
+                        _ => drop(lists.velocities.remove((at + 1) % 4)),
+                    }
+                    let call = Call::Save { id: if fails(1) { 2 } else { 1000 }, length: 4, lists };
+                    let first = REFUSALS.iter().enumerate().find(|(i, _)| fails(*i)).map(|(_, numbers)| *numbers);
+                    let expected = first.map_or(Reply::accepted(4, 0), |(kind, which)| refused(kind, which, 0));
+                    expect(pads, &mut pad.clone(), &call, expected, &format!("faults {choice:08b}"));
                 }
-                let call = Call::Save { id: if fails(1) { 2 } else { 1000 }, length: 4, sounds, steps };
-                let first = REFUSALS.iter().enumerate().find(|(i, _)| fails(*i)).map(|(_, numbers)| *numbers);
-                let expected = first.map_or(Reply::accepted(4, 0), |(kind, which)| refused(kind, which, 0));
-                expect(pads, &mut pad.clone(), &call, expected, &format!("faults {choice:07b}"));
             }
         }
     }
@@ -78,7 +88,7 @@ fn all_faults(pads: &mut Pads) {
 
 /// Lists of 16,777,216 hits and of one more, alone and with everything else that can be wrong.
 fn long_lists(pads: &mut Pads) {
-    let (most, more) = (grid(LARGEST, 131_072), vec![200u8; LARGEST + 1]);
+    let most = grid(LARGEST, 131_072);
     let held = bars(1..3, 1);
     let mut broken = holding(&held).words;
     broken[0] = 1;
@@ -86,44 +96,51 @@ fn long_lists(pads: &mut Pads) {
     expect(pads, &mut pad, &Call::save(9, 131_072, &most), refused(19, 0, 0), "16,777,216 hits");
     expect(pads, &mut pad, &Call::save(9, 131_071, &most), refused(6, 21, 0), "16,777,216 hits, the last steps too far");
     drop(most);
-    let steps = vec![7u32; LARGEST + 1];
-    let save =
-        |id: u32, sounds: &[u8], steps: &[u32]| Call::Save { id, length: 4, sounds: sounds.to_vec(), steps: steps.to_vec() };
-    expect(pads, &mut pad, &save(9, &more, &steps), refused(12, 0, 0), "both lists too long");
-    expect(pads, &mut pad, &save(9, &more, &[]), refused(12, 0, 0), "sounds too long");
-    expect(pads, &mut pad, &save(9, &[], &steps), refused(12, 0, 0), "steps too long");
-    expect(pads, &mut pad, &save(9, &more[1..], &[]), refused(11, 0, 0), "16,777,216 sounds and no steps");
-    expect(pads, &mut pad, &save(2, &more, &steps), refused(18, 0, 0), "an id that is held, lists too long");
-    expect(pads, &mut Pad::of(broken), &save(2, &more, &steps), refused(20, 0, 0), "no pad, lists too long");
+    let more = Lists { sounds: vec![200; LARGEST + 1], steps: vec![7; LARGEST + 1], velocities: vec![0; LARGEST + 1] };
+    let save = |id: u32, lengths: [usize; 3]| {
+        let Lists { sounds, steps, velocities } = &more;
+        let [a, b, c] = lengths;
+        let lists = Lists { sounds: sounds[..a].to_vec(), steps: steps[..b].to_vec(), velocities: velocities[..c].to_vec() };
+        Call::Save { id, length: 4, lists }
+    };
+    for lengths in (1..27).map(|i| [i / 9, i / 3 % 3, i % 3].map(|i| [0, LARGEST, LARGEST + 1][i])) {
+        let apart = !lengths.contains(&(LARGEST + 1)) && lengths != [LARGEST; 3];
+        let kind = if apart { 11 } else { 12 };
+        expect(pads, &mut pad, &save(9, lengths), refused(kind, 0, 0), &format!("lists of {lengths:?}"));
+    }
+    let all = [LARGEST + 1; 3];
+    expect(pads, &mut pad, &save(2, all), refused(18, 0, 0), "an id that is held, lists too long");
+    expect(pads, &mut Pad::of(broken), &save(2, all), refused(20, 0, 0), "no pad, lists too long");
 }
 
 /// Ids, lengths, steps and sounds at the ends of what they can be.
 fn edges(pads: &mut Pads) {
     for id in [0, 1, 1 << 31, u32::MAX - 1, u32::MAX] {
         for length in [0, 1, 2, 64, 1 << 31, u32::MAX - 1, u32::MAX] {
-            let mut pad = holding(&[(5, Bar { length: 9, hits: vec![(3, 8)] })].into());
+            let mut pad = holding(&[(5, Bar { length: 9, hits: vec![(3, 8, 77)] })].into());
             for step in [0, 1, length.wrapping_sub(2), length.wrapping_sub(1), length, u32::MAX] {
-                for sound in [0, 127, 128, 255] {
+                for (sound, velocity) in (0..24).map(|i| ([0, 127, 128, 255][i / 6], [0, 1, 64, 127, 128, 255][i % 6])) {
                     let mut pad = pad.clone();
-                    let expected = match (sound, step) {
+                    let expected = match (sound, velocity) {
                         (128.., _) => refused(12, 0, 0),
+                        (_, 0 | 128..) => refused(22, 0, 0),
                         _ if step >= length => refused(6, 21, 0),
                         _ => Reply::accepted(1, 0),
                     };
-                    expect(pads, &mut pad, &Call::save(id, length, &[(sound, step)]), expected, "one hit");
+                    expect(pads, &mut pad, &Call::save(id, length, &[(sound, step, velocity)]), expected, "one hit");
                     if expected.kind == 0 {
-                        let read = Call::Read { id, room: [1, 1] };
+                        let read = Call::Read { id, room: [1, 1, 1] };
                         expect(pads, &mut pad, &read, Reply::accepted(1, length.into()), "one hit read back");
                         expect(pads, &mut pad, &Call::Erase { id }, Reply::accepted(1, 0), "one hit erased");
                     }
                 }
             }
-            let no_sounds = Call::Save { id, length, sounds: Vec::new(), steps: vec![length] };
-            expect(pads, &mut pad, &no_sounds, refused(11, 0, 0), "a step and no sounds");
+            let no_sounds = Lists { steps: vec![length], velocities: vec![64], ..Lists::default() };
+            expect(pads, &mut pad, &Call::Save { id, length, lists: no_sounds }, refused(11, 0, 0), "a step and no sounds");
             expect(pads, &mut pad, &Call::save(id, length, &[]), Reply::accepted(0, 0), "no hits");
             expect(pads, &mut pad, &Call::save(id, length, &[]), refused(18, 0, 0), "no hits, again");
-            expect(pads, &mut pad, &Call::Read { id, room: [0, 0] }, Reply::accepted(0, length.into()), "no hits read back");
-            expect(pads, &mut pad, &Call::Read { id: id ^ 1, room: [0, 0] }, refused(16, 0, 0), "no bar, no places");
+            expect(pads, &mut pad, &Call::Read { id, room: [0; 3] }, Reply::accepted(0, length.into()), "no hits read back");
+            expect(pads, &mut pad, &Call::Read { id: id ^ 1, room: [0; 3] }, refused(16, 0, 0), "no bar, no places");
             expect(pads, &mut pad, &Call::Erase { id }, Reply::accepted(0, 0), "no hits erased");
             expect(pads, &mut pad, &Call::Erase { id }, refused(16, 0, 0), "no hits erased, again");
         }
@@ -136,19 +153,19 @@ fn limits(pads: &mut Pads) {
     let mut pad = Pad::empty();
     expect(pads, &mut pad, &Call::save(1, 100, &grid(HITS + 1, 100)), full, "8,193 hits");
     expect(pads, &mut pad, &Call::save(1, 64, &grid(HITS, 64)), fits(HITS as u64, 0), "8,192 hits");
-    expect(pads, &mut pad, &Call::save(0, 1, &[(0, 0)]), full, "one more");
+    expect(pads, &mut pad, &Call::save(0, 1, &[(0, 0, 1)]), full, "one more");
     for id in 2..=BARS as u32 {
         expect(pads, &mut pad, &Call::save(id, 1, &[]), fits(0, 0), "a bar without hits beside 8,192");
     }
     expect(pads, &mut pad, &Call::save(0, 1, &[]), full, "257 bars");
-    expect(pads, &mut pad, &Call::Read { id: 1, room: [HITS, HITS] }, fits(HITS as u64, 64), "8,192 hits read back");
+    expect(pads, &mut pad, &Call::Read { id: 1, room: [HITS; 3] }, fits(HITS as u64, 64), "8,192 hits read back");
     expect(pads, &mut pad, &Call::Erase { id: 1 }, fits(HITS as u64, 0), "8,192 hits erased");
     expect(pads, &mut pad, &Call::save(u32::MAX, 64, &grid(HITS, 64)), fits(HITS as u64, 0), "8,192 hits at the end");
     for (bars_held, hits_held) in [(256, 32), (256, 0), (64, 128), (255, 32), (1, HITS)] {
         let map = bars(0..bars_held, hits_held);
         let (mut pad, middle) = (holding(&map), bars_held / 2);
         expect(pads, &mut pad, &Call::save(900, 100, &grid(HITS + 1, 100)), full, "8,193 hits beside others");
-        let read = Call::Read { id: middle, room: [HITS, HITS] };
+        let read = Call::Read { id: middle, room: [HITS; 3] };
         expect(pads, &mut pad, &read, fits(hits_held as u64, 64), "the middle one read back");
         for apart in [1, 2, 3, 5] {
             let mut pad = holding(&map);
@@ -177,7 +194,7 @@ fn bars_again(pads: &mut Pads) {
         expect(pads, &mut pad, &Call::Erase { id }, Reply::accepted(0, 0), "one of 256 bars erased");
     }
     for id in [9, 400, 7] {
-        expect(pads, &mut pad, &Call::save(id, 3, &[(0, 2)]), Reply::accepted(1, 0), "256 bars again");
+        expect(pads, &mut pad, &Call::save(id, 3, &[(0, 2, 127)]), Reply::accepted(1, 0), "256 bars again");
     }
     expect(pads, &mut pad, &Call::save(255, 3, &[]), refused(19, 0, 0), "257 bars");
 }
@@ -186,7 +203,7 @@ fn bars_again(pads: &mut Pads) {
 fn no_pads(pads: &mut Pads) {
     let mut random = Random::new(20);
     let random = &mut random;
-    let three: Map = [(2, vec![(1, 0), (2, 1), (2, 3)]), (4, vec![]), (9, vec![(0, 1), (127, 2)])]
+    let three: Map = [(2, vec![(1, 0, 9), (2, 1, 127), (2, 3, 1)]), (4, vec![]), (9, vec![(0, 1, 64), (127, 2, 63)])]
         .map(|(id, hits)| (id, Bar { length: 4, hits }))
         .into();
     for map in [Map::new(), three.clone(), bars(0..256, 32), bars(3..4, HITS), bars(0..200, 9)] {
@@ -205,7 +222,7 @@ fn no_pads(pads: &mut Pads) {
                 let before = pads.tally.total();
                 match (known, pad.held.broken) {
                     (Known::Broken, None) => pads.stray(format!("{said}: the model takes it")),
-                    (Known::SameMap, Some(_)) => pads.stray(format!("{said}: the model refuses it")),
+                    (Known::SameMap | Known::SameButVelocities, Some(_)) => pads.stray(format!("{said}: the model refuses it")),
                     (_, Some(_)) => each_on_broken(pads, random, &mut pad, &map, &ids),
                     (_, None) => drop(pads.run(&mut pad, &Call::Erase { id: 2 })),
                 }
@@ -215,22 +232,22 @@ fn no_pads(pads: &mut Pads) {
     }
 }
 
-/// Both lists of a bar read back, each with every room.
+/// The three lists of a bar read back, each with every room.
 fn rooms(pads: &mut Pads) {
     for count in [0, 1, 2, 5, 128, HITS] {
-        let map = [(3, Bar { length: 1, hits: vec![(9, 0)] }), (7, Bar { length: 64, hits: grid(count, 64) })];
+        let map = [(3, Bar { length: 1, hits: vec![(9, 0, 3)] }), (7, Bar { length: 64, hits: grid(count, 64) })];
         let map: Map = map.into_iter().filter(|(id, _)| count < HITS || *id == 7).collect();
         let mut pad = holding(&map);
-        for sounds in [0, 1, count.saturating_sub(1), count, count + 1, count + 9] {
-            for steps in [0, 1, count.saturating_sub(1), count, count + 1, count + 9] {
-                let expected = match () {
-                    () if sounds < count => refused(13, 1, count as u64),
-                    () if steps < count => refused(13, 2, count as u64),
-                    () => Reply::accepted(count as u64, 64),
-                };
-                expect(pads, &mut pad, &Call::Read { id: 7, room: [sounds, steps] }, expected, "read back");
-                expect(pads, &mut pad, &Call::Read { id: 8, room: [sounds, steps] }, refused(16, 0, 0), "no such bar");
-            }
+        let rooms = [0, 1, count.saturating_sub(1), count, count + 1, count + 9];
+        for room in (0..216).map(|i| [i / 36, i / 6 % 6, i % 6].map(|i| rooms[i])) {
+            let expected = match () {
+                () if room[0] < count => refused(13, 1, count as u64),
+                () if room[1] < count => refused(13, 2, count as u64),
+                () if room[2] < count => refused(13, 3, count as u64),
+                () => Reply::accepted(count as u64, 64),
+            };
+            expect(pads, &mut pad, &Call::Read { id: 7, room }, expected, "read back");
+            expect(pads, &mut pad, &Call::Read { id: 8, room }, refused(16, 0, 0), "no such bar");
         }
     }
 }

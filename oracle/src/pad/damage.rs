@@ -12,7 +12,11 @@ pub enum Kind {
     IdTwiceApart,
     BarsExchanged,
     Sound,
-    SoundTruncated,
+    VelocityZero,
+    VelocityHigh,
+    VelocityWide,
+    NoVelocities,
+    OtherVelocities,
     HitTwice,
     HitsExchanged,
     Step,
@@ -37,14 +41,18 @@ pub enum Kind {
     Random,
 }
 
-pub const KINDS: [(Kind, &str); 28] = [
+pub const KINDS: [(Kind, &str); 32] = [
     (Kind::Free, "free words are anything: the same map"),
     (Kind::IdTwice, "an id twice, side by side"),
     (Kind::IdTwiceApart, "an id twice, with bars between"),
     (Kind::BarsExchanged, "two bars exchanged, so that ids do not rise"),
     (Kind::Sound, "a sound of 128 or more"),
-    (Kind::SoundTruncated, "a sound whose low byte is as before"),
-    (Kind::HitTwice, "a hit twice"),
+    (Kind::VelocityZero, "a velocity of 0"),
+    (Kind::VelocityHigh, "a velocity of 128 to 255"),
+    (Kind::VelocityWide, "a velocity whose low byte is as before"),
+    (Kind::NoVelocities, "all velocities 0, as pads had them before there were any"),
+    (Kind::OtherVelocities, "other velocities of 1 to 127: the same map but for them"),
+    (Kind::HitTwice, "a hit twice, with one velocity or with two"),
     (Kind::HitsExchanged, "two hits exchanged"),
     (Kind::Step, "a step that is the length, or above"),
     (Kind::Length, "a length that is the highest step, or below"),
@@ -73,6 +81,7 @@ pub const KINDS: [(Kind, &str); 28] = [
 pub enum Known {
     Broken,
     SameMap,
+    SameButVelocities,
     Nothing,
 }
 
@@ -91,7 +100,7 @@ fn places(map: &Map) -> Vec<(usize, usize)> {
 fn too_many(bars: usize, hits: usize) -> Vec<u32> {
     let mut map: Map = (0..bars as u32).map(|id| (3 * id, Bar { length: 1, hits: Vec::new() })).collect();
     if hits > 0 {
-        let hits = (0..hits as u32).map(|i| ((i / 100) as u8, i % 100)).collect();
+        let hits = (0..hits as u32).map(|i| ((i / 100) as u8, i % 100, 1 + (i % 127) as u8)).collect();
         map.insert(7, Bar { length: 100, hits });
     }
     stored_over(&map, &[0; WORDS])
@@ -123,20 +132,36 @@ pub fn damaged(random: &mut Random, map: &Map, free: &[u32], kind: Kind) -> Opti
             let ((a, _), (b, count)) = (places[at], places[at + 1]);
             words[a..b + 3 + 2 * count].rotate_left(b - a);
         }
-        Kind::Sound | Kind::SoundTruncated | Kind::Step => {
+        Kind::Sound | Kind::VelocityZero | Kind::VelocityHigh | Kind::VelocityWide | Kind::Step => {
             let (at, count) = with(random, 1)?;
             let hit = at + 3 + 2 * place(random, count);
+            let (sound, velocity) = (words[hit] % 256, words[hit] / 256);
             match kind {
-                Kind::Sound => words[hit] = random.pick(&[128, 129, 255, 256, u32::MAX]),
-                Kind::SoundTruncated => words[hit] += 256 << random.below(24),
+                Kind::Sound => words[hit] = random.pick(&[128, 129, 255, sound | 128]) + 256 * velocity,
+                Kind::VelocityZero => words[hit] = sound,
+                Kind::VelocityHigh => words[hit] = sound + 256 * random.pick(&[128, 129, 255, velocity | 128]),
+                Kind::VelocityWide => words[hit] += 65_536 << random.below(16),
                 _ => words[hit + 1] = random.pick(&[words[at + 1], words[at + 1].saturating_add(1), u32::MAX]),
             }
+        }
+        Kind::NoVelocities | Kind::OtherVelocities => {
+            with(random, 1)?;
+            for (at, count) in &places {
+                for hit in (0..*count).map(|i| at + 3 + 2 * i) {
+                    let velocity = if kind == Kind::NoVelocities { 0 } else { random.small(1, 127) };
+                    words[hit] = words[hit] % 256 + 256 * velocity;
+                }
+            }
+            known = if kind == Kind::NoVelocities { Known::Broken } else { Known::SameButVelocities };
         }
         Kind::HitTwice | Kind::HitsExchanged => {
             let (at, count) = with(random, 2)?;
             let hit = at + 3 + 2 * place(random, count - 1);
             match kind {
-                Kind::HitTwice => words.copy_within(hit..hit + 2, hit + 2),
+                Kind::HitTwice => {
+                    let velocity = random.pick(&[words[hit] / 256, 1, 127]);
+                    (words[hit + 2], words[hit + 3]) = (words[hit] % 256 + 256 * velocity, words[hit + 1]);
+                }
                 _ => words[hit..hit + 4].rotate_left(2),
             }
         }
@@ -212,7 +237,8 @@ pub fn damaged(random: &mut Random, map: &Map, free: &[u32], kind: Kind) -> Opti
         }
         Kind::Random => {
             let most = random.pick(&[1, 2, 3, 8, 300]);
-            words[..64].iter_mut().for_each(|word| *word = random.small(0, most));
+            let velocity = random.pick(&[0, 256, 256 * 127]);
+            words[..64].iter_mut().for_each(|word| *word = random.small(0, most) + random.pick(&[0, velocity]));
             words[..2].iter_mut().for_each(|word| *word = random.small(0, 3));
             known = Known::Nothing;
         }

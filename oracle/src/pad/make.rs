@@ -1,6 +1,6 @@
 //! Random bars, lists with faults, rooms and names.
 
-use super::call::Call;
+use super::call::{Call, Lists};
 use super::model::{used, Hit, Map, SOUNDS};
 use crate::questions::ends_of;
 use crate::random::Random;
@@ -51,6 +51,20 @@ fn step(random: &mut Random, length: u32) -> u32 {
     }
 }
 
+/// The ends of the range, or any.
+fn velocity(random: &mut Random) -> u8 {
+    match random.below(6) {
+        0 => 1,
+        1 => 127,
+        _ => random.small(1, 127) as u8,
+    }
+}
+
+/// Hits on these places, each with a velocity.
+fn struck(random: &mut Random, places: impl IntoIterator<Item = (u8, u32)>) -> Vec<Hit> {
+    places.into_iter().map(|(sound, step)| (sound, step, velocity(random))).collect()
+}
+
 /// So many different hits below a length, by sound, then step; fewer where the length does not have them.
 pub fn hits(random: &mut Random, count: usize, length: u32) -> Vec<Hit> {
     let most = (u64::from(length) * SOUNDS as u64).min(count as u64) as usize;
@@ -69,7 +83,7 @@ pub fn hits(random: &mut Random, count: usize, length: u32) -> Vec<Hit> {
         let all = (0..SOUNDS as u8).flat_map(|sound| (low..low + each).map(move |step| (sound, step)));
         hits.extend(all.take(most));
     }
-    hits.into_iter().collect()
+    struck(random, hits)
 }
 
 /// Exactly so many hits, which the length has room for.
@@ -80,7 +94,7 @@ pub fn exactly(random: &mut Random, count: usize, length: u32) -> Vec<Hit> {
     }
     let each = count.div_ceil(SOUNDS) as u32;
     let all = (0..SOUNDS as u8).flat_map(|sound| (length - each..length).map(move |step| (sound, step)));
-    all.take(count).collect()
+    struck(random, all.take(count))
 }
 
 /// A place of so many: the first, the last or any.
@@ -90,26 +104,33 @@ pub fn place(random: &mut Random, count: usize) -> usize {
 }
 
 /// One to three faults of every sort that saving tells, anywhere in the lists.
-pub fn spoil(random: &mut Random, length: u32, sounds: &mut Vec<u8>, steps: &mut Vec<u32>) {
+pub fn spoil(random: &mut Random, length: u32, Lists { sounds, steps, velocities }: &mut Lists) {
     for _ in 0..random.pick(&[1, 1, 1, 2, 3]) {
-        let n = sounds.len().min(steps.len());
+        let n = sounds.len().min(steps.len()).min(velocities.len());
         let at = if n == 0 { 0 } else { place(random, n) };
-        match random.below(8) {
+        match random.below(11) {
             0 => sounds.push(random.pick(&[0, 127, 128])),
             1 => steps.push(random.pick(&[0, length, u32::MAX])),
-            2 if n > 0 => drop(if random.chance(50) { sounds.pop().map(u32::from) } else { steps.pop() }),
+            2 if n > 0 => match random.below(3) {
+                0 => drop(sounds.pop()),
+                1 => drop(steps.pop()),
+                _ => drop(velocities.pop()),
+            },
             3 if n > 0 => sounds[at] = random.pick(&[128, 129, 255]),
             4 if n > 0 => steps[at] = random.pick(&[length, length, length.saturating_add(1), u32::MAX]),
             5 if n > 1 => {
                 let other = random.below(n);
                 sounds.swap(at, other);
                 steps.swap(at, other);
+                velocities.swap(at, other);
             }
             6 if n > 1 => {
                 let from = at.min(n - 2);
                 (sounds[from + 1], steps[from + 1]) = (sounds[from], steps[from].saturating_sub(random.small(0, 1)));
             }
             7 if n > 0 => (sounds[at], steps[at]) = (random.below(256) as u8, random.edge()),
+            8 => velocities.push(random.pick(&[0, 1, 127, 128])),
+            9 | 10 if n > 0 => velocities[at] = random.pick(&[0, 0, 128, 128, 129, 255]),
             _ => {}
         }
     }
@@ -121,9 +142,9 @@ pub fn save(random: &mut Random, id: u32, most: usize, faults: usize) -> Call {
     let count = random.below(most + 1);
     let hits = hits(random, count, length);
     let mut call = Call::save(id, length, &hits);
-    if let Call::Save { sounds, steps, .. } = &mut call {
+    if let Call::Save { lists, .. } = &mut call {
         if random.chance(faults) {
-            spoil(random, length, sounds, steps);
+            spoil(random, length, lists);
         }
     }
     call
@@ -142,7 +163,7 @@ pub fn room(random: &mut Random, needed: usize) -> usize {
 
 pub fn read(random: &mut Random, map: &Map, id: u32) -> Call {
     let needed = map.get(&id).map_or(random.below(3), |bar| bar.hits.len());
-    Call::Read { id, room: [room(random, needed), room(random, needed)] }
+    Call::Read { id, room: [(); 3].map(|_| room(random, needed)) }
 }
 
 /// Names for all sounds that rise: of one byte, of three, with letters of several bytes, or of many lengths.

@@ -1,7 +1,8 @@
-//! The calls on a pad beside a model of wishes 6 and 7, a plain map, which the Rust does not have. Read in this order:
+//! The calls on a pad beside a model of wishes 6, 7 and 9, a plain map, which the Rust does not have. Read in this order:
 //!   model, words                   the map from document 02's words; the words that hold it, from the layout in include/pstp.h
 //!   call, compare                  the library through the C interface, between pages that cannot be touched; one call by both
-//!   tally, seen, seen_names, seen_hits  what was reached, clause by clause
+//!   velocities                     pads that differ in velocities alone, written out
+//!   tally, seen, seen_names, seen_hits, seen_velocities  what was reached, clause by clause
 //!   worked, corners, names, small  examples worked out by hand, tests that meet, whole small spaces
 //!   make, damage, fill, rounds     random sequences: few ids, pads filled and torn, words that were damaged
 //!   phrases                        phrases put to what was written, against the map's own hits
@@ -20,9 +21,11 @@ mod rounds;
 mod seen;
 mod seen_hits;
 mod seen_names;
+mod seen_velocities;
 mod shrink;
 mod small;
 mod tally;
+mod velocities;
 mod words;
 mod worked;
 
@@ -61,6 +64,9 @@ pub fn conclude(pads: &mut Pads) {
     println!("differences of the calls on pads: {}", pads.differences);
     for said in &pads.astray {
         println!("the model itself: {said}");
+    }
+    if let Some(said) = &pads.unlike {
+        println!("{said}");
     }
     if let Some(kept) = pads.smallest.take() {
         let kept = shrink::shrunk(pads, kept);

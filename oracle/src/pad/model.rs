@@ -1,7 +1,7 @@
-//! A pad as document 02's wishes 6 and 7 have it: a plain map from id to bar, and what saving, erasing, reading back, writing out and the
-//! counter answer of it. Writing out is the Rust's writer for the map's lists; all else is written here.
+//! A pad as document 02's wishes 6, 7 and 9 have it: a plain map from id to bar, and what saving, erasing, reading back, writing out and
+//! the counter answer of it. Writing out is the Rust's writer for the map's lists; all else is written here.
 
-use super::call::Call;
+use super::call::{Call, Lists};
 use super::words::Held;
 use crate::compare::{found, opened};
 use crate::given::{Given, Posting, Term};
@@ -16,8 +16,13 @@ pub const LARGEST: usize = 16_777_216;
 /// No segment has fewer bytes.
 const SMALLEST_SEGMENT: usize = 72;
 
-/// A sound and a step: by sound, then step, as the order of pairs has it.
-pub type Hit = (u8, u32);
+/// A sound, a step and a velocity; the order of hits is by sound, then step.
+pub type Hit = (u8, u32, u8);
+
+/// What the order of hits, equal hits and the written bytes go by.
+pub fn place(hit: &Hit) -> (u8, u32) {
+    (hit.0, hit.1)
+}
 
 #[derive(Clone, Debug, Default, PartialEq, Eq)]
 pub struct Bar {
@@ -34,7 +39,7 @@ pub fn hits_in(map: &Map) -> usize {
 /// Whether each sound has hits in some bar.
 pub fn used(map: &Map) -> [bool; SOUNDS] {
     let mut used = [false; SOUNDS];
-    for (sound, _) in map.values().flat_map(|bar| &bar.hits) {
+    for (sound, ..) in map.values().flat_map(|bar| &bar.hits) {
         used[usize::from(*sound)] = true;
     }
     used
@@ -48,12 +53,14 @@ pub enum Test {
     LongList,
     Lengths,
     Sound,
+    Velocity,
     Order,
     Step,
     Full,
     Unknown,
     Sounds,
     Steps,
+    Velocities,
     LongText,
     LongEnds,
     EndsCount,
@@ -81,12 +88,14 @@ impl Refused {
             Test::Held => Refusal::of_kind(18),
             Test::LongList | Test::Sound | Test::LongText | Test::LongEnds => Refusal::of_kind(12),
             Test::Lengths | Test::EndsCount | Test::EndsFall | Test::EndsLast => Refusal::of_kind(11),
+            Test::Velocity => Refusal::of_kind(22),
             Test::Order => Refusal::new(6, 20, 0),
             Test::Step => Refusal::new(6, 21, 0),
             Test::Full => Refusal::of_kind(19),
             Test::Unknown => Refusal::of_kind(16),
             Test::Sounds | Test::Out => Refusal::new(13, 1, needed as u64),
             Test::Steps => Refusal::new(13, 2, needed as u64),
+            Test::Velocities => Refusal::new(13, 3, needed as u64),
             Test::NotUtf8 => Refusal::of_kind(10),
             Test::Empty => Refusal::new(6, 6, 0),
             Test::NotRising => Refusal::new(6, 16, 0),
@@ -112,6 +121,7 @@ pub struct Answer {
     pub second: u64,
     pub sounds: Vec<u8>,
     pub steps: Vec<u32>,
+    pub velocities: Vec<u8>,
     pub bytes: Vec<u8>,
     pub change: Change,
 }
@@ -130,23 +140,26 @@ fn failed(tests: &[(Test, bool)]) -> Vec<Test> {
 }
 
 /// Each over all hits before the next; 19 goes by the numbers held and by nothing else.
-fn save_fails(map: &Map, id: u32, length: u32, sounds: &[u8], steps: &[u32]) -> Vec<Test> {
-    let hits = || sounds.iter().zip(steps);
+fn save_fails(map: &Map, id: u32, length: u32, Lists { sounds, steps, velocities }: &Lists) -> Vec<Test> {
+    let places = || sounds.iter().zip(steps);
+    let lengths = [sounds.len(), steps.len(), velocities.len()];
     failed(&[
         (Test::Held, map.contains_key(&id)),
-        (Test::LongList, sounds.len() > LARGEST || steps.len() > LARGEST),
-        (Test::Lengths, sounds.len() != steps.len()),
+        (Test::LongList, lengths.iter().any(|length| *length > LARGEST)),
+        (Test::Lengths, lengths.iter().any(|length| *length != lengths[0])),
         (Test::Sound, sounds.iter().any(|sound| *sound > 127)),
-        (Test::Order, hits().zip(hits().skip(1)).any(|(hit, next)| hit >= next)),
+        (Test::Velocity, velocities.iter().any(|velocity| !(1..=127).contains(velocity))),
+        (Test::Order, places().zip(places().skip(1)).any(|(hit, next)| hit >= next)),
         (Test::Step, steps.iter().any(|step| *step >= length)),
         (Test::Full, map.len() >= BARS || hits_in(map) + sounds.len() > HITS),
     ])
 }
 
-fn read_fails(map: &Map, id: u32, [sounds, steps]: [usize; 2]) -> (Vec<Test>, usize) {
+fn read_fails(map: &Map, id: u32, room: [usize; 3]) -> (Vec<Test>, usize) {
     let Some(bar) = map.get(&id) else { return (vec![Test::Unknown], 0) };
     let needed = bar.hits.len();
-    (failed(&[(Test::Sounds, needed > sounds), (Test::Steps, needed > steps)]), needed)
+    let tests = [Test::Sounds, Test::Steps, Test::Velocities];
+    (tests.into_iter().zip(room).filter(|(_, places)| needed > *places).map(|(test, _)| test).collect(), needed)
 }
 
 /// 12 and 11, which look at all of the names.
@@ -176,7 +189,7 @@ fn used_names_fail(given: &Given) -> Vec<Test> {
     failing
 }
 
-/// The map's lists: bars by rising id, sounds by rising number, those without hits left out.
+/// The map's lists: bars by rising id, sounds by rising number, those without hits left out. They have no velocities.
 pub fn given_of(map: &Map, text: &[u8], ends: &[u32]) -> Given {
     let mut terms = Vec::new();
     for (sound, name) in (0u8..).zip(words::names(text, ends)) {
@@ -221,7 +234,7 @@ fn write(map: &Map, text: &[u8], ends: &[u32], room: usize) -> Told {
 /// What else is wrong with a call on words that are no pad, as far as these can be read.
 fn beside_broken(map: &Map, call: &Call) -> Vec<Test> {
     match call {
-        Call::Save { id, length, sounds, steps } => save_fails(map, *id, *length, sounds, steps),
+        Call::Save { id, length, lists } => save_fails(map, *id, *length, lists),
         Call::Erase { id } => failed(&[(Test::Unknown, !map.contains_key(id))]),
         Call::Read { id, room } => read_fails(map, *id, *room).0,
         Call::Write { text, ends, room } => {
@@ -252,14 +265,13 @@ pub fn answer(held: &Held, call: &Call) -> Told {
         return Err(Refused::by([vec![Test::Broken], beside_broken(map, call)].concat(), 0));
     }
     match call {
-        Call::Save { id, length, sounds, steps } => {
-            let failing = save_fails(map, *id, *length, sounds, steps);
+        Call::Save { id, length, lists } => {
+            let failing = save_fails(map, *id, *length, lists);
             if !failing.is_empty() {
                 return Err(Refused::by(failing, 0));
             }
-            let hits = sounds.iter().copied().zip(steps.iter().copied()).collect();
-            let change = Change::Saved(*id, Bar { length: *length, hits });
-            Ok(Answer { first: sounds.len() as u64, change, ..Answer::default() })
+            let bar = Bar { length: *length, hits: lists.hits() };
+            Ok(Answer { first: bar.hits.len() as u64, change: Change::Saved(*id, bar), ..Answer::default() })
         }
         Call::Erase { id } => match map.get(id) {
             None => Err(Refused::by(vec![Test::Unknown], 0)),
@@ -271,8 +283,8 @@ pub fn answer(held: &Held, call: &Call) -> Told {
                 return Err(Refused::by(failing, needed));
             }
             let bar = &map[id];
-            let (sounds, steps) = bar.hits.iter().copied().unzip();
-            Ok(Answer { first: needed as u64, second: bar.length.into(), sounds, steps, ..Answer::default() })
+            let Lists { sounds, steps, velocities } = Lists::of(&bar.hits);
+            Ok(Answer { first: needed as u64, second: bar.length.into(), sounds, steps, velocities, ..Answer::default() })
         }
         Call::Write { text, ends, room } => write(map, text, ends, *room),
         Call::Hits => Ok(Answer { first: counter(held), ..Answer::default() }),

@@ -12,7 +12,7 @@ const ENOUGH: usize = 1 << 20;
 
 /// One bar with a hit of each of these sounds.
 fn with(sounds: &[u8]) -> Pad {
-    let hits = sounds.iter().map(|sound| (*sound, 1)).collect();
+    let hits = sounds.iter().map(|sound| (*sound, 1, sound % 127 + 1)).collect();
     Pad::holding(&[(5, Bar { length: 2, hits })].into(), &[0; WORDS])
 }
 
@@ -172,8 +172,9 @@ fn limits(pads: &mut Pads) {
 /// Full pads: 8,192 hits of all sounds, in one bar and in 256, and ids at both ends.
 fn full(pads: &mut Pads) {
     let one: Map = [(0, Bar { length: 64, hits: grid(HITS, 64) }), (u32::MAX, Bar { length: u32::MAX, hits: Vec::new() })].into();
-    let many = (0..256u32)
-        .map(|id| (id * 16_843_009, Bar { length: 9, hits: (0..32).map(|i| (((id + 4 * i) % 128) as u8, 8)).collect() }));
+    let many = (0..256u32).map(|id| {
+        (id * 16_843_009, Bar { length: 9, hits: (0..32).map(|i| (((id + 4 * i) % 128) as u8, 8, 1 + i as u8)).collect() })
+    });
     let many: Map = many
         .map(|(id, mut bar): (u32, Bar)| {
             bar.hits.sort_unstable();

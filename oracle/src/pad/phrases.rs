@@ -1,7 +1,7 @@
 //! Phrases put to a pad that was written out, held against the map's own hits.
 
 use super::compare::Pads;
-use super::model::{given_of, Bar, Map};
+use super::model::{given_of, place, Bar, Map};
 use crate::case::{Call, Case, ENDS};
 use crate::compare::{opened, Runner};
 use crate::questions::ends_of;
@@ -10,8 +10,9 @@ use crate::words::names;
 
 /// The bars whose own hits meet a phrase of sounds: some start has sound i on start + i.
 fn meeting(map: &Map, phrase: &[u8]) -> Vec<u32> {
-    let has =
-        |bar: &Bar, sound: u8, step: u64| u32::try_from(step).is_ok_and(|step| bar.hits.binary_search(&(sound, step)).is_ok());
+    let has = |bar: &Bar, sound: u8, step: u64| {
+        u32::try_from(step).is_ok_and(|step| bar.hits.binary_search_by_key(&(sound, step), place).is_ok())
+    };
     let fits = |bar: &Bar, start: u32| (0u64..).zip(phrase).all(|(i, sound)| has(bar, *sound, u64::from(start) + i));
     let meets = |bar: &Bar| bar.hits.iter().any(|hit| fits(bar, hit.1));
     map.iter().filter(|(_, bar)| !phrase.is_empty() && meets(bar)).map(|(id, _)| *id).collect()

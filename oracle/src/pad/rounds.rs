@@ -7,6 +7,7 @@ use super::fill;
 use super::make;
 use super::model::{Bar, Map, Told, BARS, HITS};
 use super::phrases;
+use super::velocities::alike;
 use super::words::WORDS;
 use crate::compare::Runner;
 use crate::random::Random;
@@ -102,6 +103,7 @@ fn from_damaged(pads: &mut Pads, runner: &mut Runner, random: &mut Random) {
         let is_known = match known {
             Known::Broken => pad.held.broken.is_some(),
             Known::SameMap => pad.held.broken.is_none() && *pad.map() == map,
+            Known::SameButVelocities => pad.held.broken.is_none() && alike(pad.map(), &map),
             Known::Nothing => true,
         };
         if !is_known {

@@ -1,6 +1,6 @@
 //! A case as text, tried, and made smaller for as long as it differs.
 
-use super::call::{Call, CALLS};
+use super::call::{Call, Lists, CALLS};
 use super::compare::{Pad, Pads};
 use super::model::{answer, reply, Map, Told};
 use super::words::{stored_over, WORDS};
@@ -27,12 +27,12 @@ fn sum(numbers: &[u32]) -> u64 {
 /// The elements of a call's lists and rooms; its numbers and bytes added up.
 fn weight(call: &Call) -> (usize, u64) {
     match call {
-        Call::Save { id, length, sounds, steps } => {
-            let all = sounds.iter().map(|sound| u64::from(*sound)).sum::<u64>() + sum(steps) + u64::from(*length);
-            (sounds.len() + steps.len(), all + u64::from(*id))
+        Call::Save { id, length, lists } => {
+            let bytes = lists.sounds.iter().chain(&lists.velocities).map(|byte| u64::from(*byte)).sum::<u64>();
+            (lists.lengths().iter().sum(), bytes + sum(&lists.steps) + u64::from(*length) + u64::from(*id))
         }
         Call::Erase { id } => (0, u64::from(*id)),
-        Call::Read { id, room } => (room[0] + room[1], u64::from(*id)),
+        Call::Read { id, room } => (room.iter().sum(), u64::from(*id)),
         Call::Write { text, ends, room } => (text.len() + ends.len() + room, 0),
         Call::Hits => (0, 0),
     }
@@ -53,8 +53,9 @@ pub fn shown(words: &[u32], call: &Call) -> String {
     let mut said = format!("call={} words={} pad={}", CALLS[call.number()], words.len(), join(&words[..set]));
     said += &match call {
         _ if weight(call).0 > LARGEST_SHOWN => return format!("{}, lists and rooms of {} places", said, weight(call).0),
-        Call::Save { id, length, sounds, steps } => {
-            format!(" id={id} length={length} sounds={} steps={}", join(sounds), join(steps))
+        Call::Save { id, length, lists: Lists { sounds, steps, velocities } } => {
+            let lists = [join(sounds), join(steps), join(velocities)];
+            format!(" id={id} length={length} sounds={} steps={} velocities={}", lists[0], lists[1], lists[2])
         }
         Call::Erase { id } => format!(" id={id}"),
         Call::Read { id, room } => format!(" id={id} room={}", join(room)),
@@ -73,13 +74,11 @@ fn parsed(line: &str) -> Option<Kept> {
     let call = match value("call")? {
         "pad_save" => {
             let (sounds, steps) = (numbers(value("sounds").unwrap_or(""))?, numbers(value("steps").unwrap_or(""))?);
-            Call::Save { id: number("id")?, length: number("length")?, sounds, steps }
+            let velocities = numbers(value("velocities").unwrap_or(""))?;
+            Call::Save { id: number("id")?, length: number("length")?, lists: Lists { sounds, steps, velocities } }
         }
         "pad_erase" => Call::Erase { id: number("id")? },
-        "pad_read" => {
-            let [sounds, steps] = numbers::<usize>(value("room")?)?[..] else { return None };
-            Call::Read { id: number("id")?, room: [sounds, steps] }
-        }
+        "pad_read" => Call::Read { id: number("id")?, room: numbers::<usize>(value("room")?)?.try_into().ok()? },
         "pad_write" => {
             let (text, ends) = (unhex(value("text").unwrap_or(""))?, numbers(value("ends").unwrap_or(""))?);
             Call::Write { text, ends, room: value("room")?.parse().ok()? }
@@ -167,20 +166,29 @@ fn smaller_calls(call: &Call) -> Vec<Call> {
     let lower = |id: u32| [0, 1, id / 2, id.saturating_sub(1)];
     let mut all = vec![Call::Hits];
     match call {
-        Call::Save { id, length, sounds, steps } => {
-            for part in parts(sounds.len().max(steps.len()), &[4096, 256, 16, 1]) {
-                let (mut sounds, mut steps) = (sounds.clone(), steps.clone());
-                drop(sounds.drain(part.start.min(sounds.len())..part.end.min(sounds.len())));
-                drop(steps.drain(part.start.min(steps.len())..part.end.min(steps.len())));
-                all.push(Call::Save { id: *id, length: *length, sounds, steps });
+        Call::Save { id, length, lists } => {
+            for part in parts(lists.lengths().into_iter().max().unwrap_or(0), &[4096, 256, 16, 1]) {
+                let mut lists = lists.clone();
+                let [sounds, steps, velocities] = lists.lengths().map(|n| part.start.min(n)..part.end.min(n));
+                drop((lists.sounds.drain(sounds), lists.steps.drain(steps), lists.velocities.drain(velocities)));
+                all.push(Call::Save { id: *id, length: *length, lists });
             }
-            all.extend(lower(*id).map(|id| Call::Save { id, length: *length, sounds: sounds.clone(), steps: steps.clone() }));
-            all.extend(lower(*length).map(|length| Call::Save { id: *id, length, sounds: sounds.clone(), steps: steps.clone() }));
+            for at in 0..lists.velocities.len().min(256) {
+                let mut lists = lists.clone();
+                lists.velocities[at] = 1;
+                all.push(Call::Save { id: *id, length: *length, lists });
+            }
+            all.extend(lower(*id).map(|id| Call::Save { id, length: *length, lists: lists.clone() }));
+            all.extend(lower(*length).map(|length| Call::Save { id: *id, length, lists: lists.clone() }));
         }
         Call::Erase { id } => all.extend(lower(*id).map(|id| Call::Erase { id })),
         Call::Read { id, room } => {
             all.extend(lower(*id).map(|id| Call::Read { id, room: *room }));
-            all.extend([0, 1].map(|i| Call::Read { id: *id, room: [room[0].saturating_sub(i), room[1].saturating_sub(1 - i)] }));
+            for buffer in 0..room.len() {
+                let mut room = *room;
+                room[buffer] = room[buffer].saturating_sub(1);
+                all.push(Call::Read { id: *id, room });
+            }
         }
         Call::Write { text, ends, room } => {
             for room in [0, room / 2, room.saturating_sub(1)] {

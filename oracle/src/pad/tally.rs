@@ -13,9 +13,9 @@ const N: usize = CALLS.len();
 
 /// The tests of each call in their order; of the names of sounds with hits any can come first, and the counter has none.
 const TESTS: [&[Test]; N] = [
-    &[Broken, Held, LongList, Lengths, Sound, Order, Step, Full],
+    &[Broken, Held, LongList, Lengths, Sound, Velocity, Order, Step, Full],
     &[Broken, Unknown],
-    &[Broken, Unknown, Sounds, Steps],
+    &[Broken, Unknown, Sounds, Steps, Velocities],
     &[Broken, LongText, LongEnds, EndsCount, EndsFall, EndsLast, NotUtf8, Empty, NotRising, Out],
     &[],
 ];
@@ -30,12 +30,14 @@ fn words(test: Test) -> &'static str {
         LongList => "12 of a list",
         Lengths => "11",
         Sound => "12 of a sound",
+        Velocity => "22",
         Order => "6 20",
         Step => "6 21",
         Full => "19",
         Unknown => "16",
         Sounds => "13 1",
         Steps => "13 2",
+        Velocities => "13 3",
         LongText => "12 of the text",
         LongEnds => "12 of the ends",
         EndsCount => "11 of their number",
@@ -51,7 +53,7 @@ fn words(test: Test) -> &'static str {
 
 /// Whether both can fail and be told, the first of them being the refusal.
 fn meet(first: Test, other: Test) -> bool {
-    let unknown = first == Unknown && [Sounds, Steps].contains(&other);
+    let unknown = first == Unknown && [Sounds, Steps, Velocities].contains(&other);
     // without their shape the text has no names
     let unnamed = SHAPE.contains(&first) && NAMES.contains(&other);
     !unknown && !unnamed
@@ -93,8 +95,10 @@ pub struct Tally {
     after: [[u64; 2]; N],
     /// calls on words that were damaged in a known way
     pub kinds: [u64; KINDS.len()],
-    /// by call, the clauses of its table
+    /// by call, the clauses of its tables
     seen: [Vec<u64>; N],
+    /// writing out from two pads that differ in velocities alone, accepted or by what is refused
+    alike: [u64; COUNT + 1],
     /// words of the model's that were read again
     pub held: u64,
     /// verdicts of the model that were held against what a damage does
@@ -114,7 +118,8 @@ impl Tally {
             damages: [[0; N]; DAMAGES.len()],
             after: [[0; 2]; N],
             kinds: [0; KINDS.len()],
-            seen: TABLES.map(|table| vec![0; table.len()]),
+            seen: TABLES.map(|tables| vec![0; tables.concat().len()]),
+            alike: [0; COUNT + 1],
             held: 0,
             known: 0,
             written: 0,
@@ -145,7 +150,7 @@ impl Tally {
             self.count_damage(damage, number);
         }
         let facts = Facts::new(pad, call, told);
-        for (count, (_, seen)) in self.seen[number].iter_mut().zip(TABLES[number]) {
+        for (count, (_, seen)) in self.seen[number].iter_mut().zip(TABLES[number].into_iter().flatten()) {
             *count += u64::from(seen(&facts));
         }
     }
@@ -156,6 +161,11 @@ impl Tally {
         if *call != Call::Hits {
             self.count(pad, &Call::Hits, &answer(&pad.held, &Call::Hits));
         }
+    }
+
+    /// Counts two pads with other velocities that were written out alike.
+    pub fn count_alike(&mut self, told: &Told) {
+        self.alike[told.as_ref().map_or_else(|refused| refused.failing[0] as usize, |_| COUNT)] += 1;
     }
 
     fn count_damage(&mut self, damage: Damage, call: usize) {
@@ -187,8 +197,17 @@ impl Tally {
         }
         println!("calls on words that were changed so:");
         print_counts(KINDS.iter().map(|(_, said)| *said).zip(self.kinds), &mut missing);
+        println!("pads that differ in velocities alone, written out alike: {} times; and refused alike:", self.alike[COUNT]);
+        for test in &TESTS[3][1..] {
+            println!("  {:60}{:>10}", words(*test), self.alike[*test as usize]);
+        }
+        let unseen = TESTS[3][1..].iter().filter(|test| self.alike[**test as usize] == 0);
+        missing.extend(unseen.map(|test| format!("{} alike, whatever the velocities", words(*test))));
+        if self.alike[COUNT] == 0 {
+            missing.push("written out alike, whatever the velocities".to_string());
+        }
         println!("calls that had:");
-        let clauses = TABLES.iter().copied().flatten().map(|(said, _)| *said);
+        let clauses = TABLES.iter().flatten().copied().flatten().map(|(said, _)| *said);
         print_counts(clauses.zip(self.seen.iter().flatten().copied()), &mut missing);
         let strange: u64 = self.refused.iter().map(|refused| refused[Strange as usize]).sum();
         if strange > 0 {

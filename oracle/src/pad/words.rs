@@ -1,6 +1,6 @@
 //! A pad's words by the layout of include/pstp.h: the map that they hold, or the first rule of the layout that they break.
 
-use super::model::{Bar, Map, BARS, HITS};
+use super::model::{Bar, Hit, Map, BARS, HITS};
 
 pub const WORDS: usize = 17_154;
 
@@ -15,6 +15,9 @@ pub enum Damage {
     IdFalls,
     Count,
     Sound,
+    VelocityZero,
+    VelocityHigh,
+    VelocityWide,
     HitTwice,
     StepFalls,
     SoundFalls,
@@ -22,7 +25,7 @@ pub enum Damage {
     Total,
 }
 
-pub const DAMAGES: [(Damage, &str); 13] = [
+pub const DAMAGES: [(Damage, &str); 16] = [
     (Damage::Shorter, "fewer words than a pad has"),
     (Damage::Longer, "more words than a pad has"),
     (Damage::Bars, "over 256 bars"),
@@ -31,7 +34,10 @@ pub const DAMAGES: [(Damage, &str); 13] = [
     (Damage::IdFalls, "an id below the one before"),
     (Damage::Count, "bars with more hits than the pad's number"),
     (Damage::Sound, "a sound above 127"),
-    (Damage::HitTwice, "a hit that is the one before"),
+    (Damage::VelocityZero, "a velocity of 0"),
+    (Damage::VelocityHigh, "a velocity of 128 to 255"),
+    (Damage::VelocityWide, "a velocity of more than a byte"),
+    (Damage::HitTwice, "a hit that is the one before, whatever its velocity"),
     (Damage::StepFalls, "a step below the one before, of one sound"),
     (Damage::SoundFalls, "a sound below the one before"),
     (Damage::Step, "a step not below the length"),
@@ -82,12 +88,17 @@ impl Held {
         held
     }
 
-    fn hits(&mut self, rest: &mut impl Iterator<Item = u32>, length: u32, count: u32) -> Vec<(u8, u32)> {
-        let mut hits: Vec<(u8, u32)> = Vec::new();
+    /// A hit is two words: sound and 256 times the velocity, then the step.
+    fn hits(&mut self, rest: &mut impl Iterator<Item = u32>, length: u32, count: u32) -> Vec<Hit> {
+        let mut hits: Vec<Hit> = Vec::new();
         let mut before: Option<(u32, u32)> = None;
         for _ in 0..count {
-            let (Some(sound), Some(step)) = (rest.next(), rest.next()) else { break };
+            let (Some(word), Some(step)) = (rest.next(), rest.next()) else { break };
+            let (sound, velocity) = (word % 256, word / 256);
             self.tell(sound > 127, Damage::Sound);
+            self.tell(velocity == 0, Damage::VelocityZero);
+            self.tell((128..256).contains(&velocity), Damage::VelocityHigh);
+            self.tell(velocity > 255, Damage::VelocityWide);
             if let Some(before) = before {
                 self.tell(before == (sound, step), Damage::HitTwice);
                 self.tell(before.0 == sound && before.1 > step, Damage::StepFalls);
@@ -95,7 +106,7 @@ impl Held {
             }
             self.tell(step >= length, Damage::Step);
             before = Some((sound, step));
-            hits.push((sound.min(127) as u8, step));
+            hits.push((sound.min(127) as u8, step, velocity.clamp(1, 127) as u8));
         }
         hits
     }
@@ -117,7 +128,7 @@ pub fn stored(map: &Map) -> Vec<u32> {
     let mut words = vec![map.len() as u32, super::model::hits_in(map) as u32];
     for (id, bar) in map {
         words.extend([*id, bar.length, bar.hits.len() as u32]);
-        words.extend(bar.hits.iter().flat_map(|(sound, step)| [u32::from(*sound), *step]));
+        words.extend(bar.hits.iter().flat_map(|(sound, step, velocity)| [u32::from(*sound) + 256 * u32::from(*velocity), *step]));
     }
     words
 }
