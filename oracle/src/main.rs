@@ -184,16 +184,16 @@ fn compared(options: &Options) -> std::io::Result<ExitCode> {
         runner.handles.tally.print();
         any.print();
     }
-    if all || options.only_midi {
-        midi.tally.print();
-    }
+    let mut missed = if all || options.only_midi { midi.tally.print() } else { 0 };
     if all || options.only_sheets {
         runner.sheets.tally.print();
     }
     if all || options.only_ranked {
         runner.ranked.tally.print();
     }
-    let mut missed = if all || options.only_pads { pads.tally.print() } else { 0 };
+    if all || options.only_pads {
+        missed += pads.tally.print();
+    }
     if all || options.only_lookups {
         missed += lookups.tally.print();
     }

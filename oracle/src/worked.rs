@@ -11,7 +11,10 @@ fn uneven() -> Given {
 }
 
 fn spread() -> Given {
-    Given { documents: uneven().documents, terms: vec![term("a", &[(2, &[4]), (70000, &[0, 5, 4095])]), term("b", &[(9, &[7])])] }
+    Given {
+        documents: uneven().documents,
+        terms: vec![term("a", &[(2, &[4]), (70000, &[0, 5, 4095])]), term("b", &[(9, &[7])])],
+    }
 }
 
 fn same_step() -> Given {

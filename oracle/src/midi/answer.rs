@@ -1,4 +1,4 @@
-//! What `pstp_midi_bars` has to answer: the hits as the lists that the writer takes, in the eight buffers' order.
+//! What `pstp_midi_bars` has to answer: the hits as the lists that the writer takes and their velocities, in the nine buffers' order.
 
 use super::clause::{Broken, Clause};
 use super::model::{self, Hits, BAR_LENGTH};
@@ -8,21 +8,24 @@ use crate::reply::{Refusal, Reply};
 use crate::words;
 use std::collections::BTreeMap;
 
-pub const BUFFERS: [&str; 8] =
-    ["ids", "lengths", "text", "ends", "posting_counts", "posting_ids", "position_counts", "positions"];
-/// The buffer of bytes; the seven others are of u32, and hold these of the writer's lists.
+pub const BUFFERS: [&str; 9] =
+    ["ids", "lengths", "text", "ends", "posting_counts", "posting_ids", "position_counts", "positions", "velocities"];
+/// The buffers of bytes; the seven others are of u32, and hold these of the writer's lists.
 pub const TEXT: usize = 2;
+pub const VELOCITIES: usize = 8;
 pub const NUMBERS: [(usize, usize); 7] =
     [(0, IDS), (1, LENGTHS), (3, ENDS), (4, POSTING_COUNTS), (5, POSTING_IDS), (6, POSITION_COUNTS), (7, POSITIONS)];
 
-/// How many places each of the eight buffers has.
-pub type Room = [usize; 8];
+/// How many places each of the nine buffers has.
+pub type Room = [usize; 9];
 
 /// A whole answer, before any buffer is looked at.
 #[derive(Debug, Default)]
 pub struct Answer {
     pub hits: Hits,
     pub flat: Flat,
+    /// side by side with the positions
+    pub velocities: Vec<u8>,
 }
 
 /// Why a call is refused: the file, or a buffer.
@@ -43,9 +46,9 @@ pub fn sound(note: u8) -> String {
 
 /// Every bar from 0 to the last with a hit; under each sound its bars, under each of these its positions.
 fn given(hits: &Hits) -> Given {
-    let bars = hits.iter().map(|hit| hit.bar + 1).max().unwrap_or(0);
+    let bars = hits.keys().map(|hit| hit.bar + 1).max().unwrap_or(0);
     let mut sounds: BTreeMap<u8, BTreeMap<u32, Vec<u32>>> = BTreeMap::new();
-    for hit in hits {
+    for hit in hits.keys() {
         sounds.entry(hit.note).or_default().entry(hit.bar).or_default().push(hit.position);
     }
     let postings = |bars: BTreeMap<u32, Vec<u32>>| bars.into_iter().map(|(id, positions)| Posting { id, positions }).collect();
@@ -58,16 +61,19 @@ fn given(hits: &Hits) -> Given {
 pub fn found(file: &[u8]) -> Found {
     let hits = model::hits(file)?;
     let flat = given(&hits).flat();
-    Ok(Answer { hits, flat })
+    // by note, then bar, then position: the order in which the lists have the positions
+    let velocities = hits.values().copied().collect();
+    Ok(Answer { hits, flat, velocities })
 }
 
 impl Answer {
     pub fn needed(&self) -> Room {
-        let mut room = [0; 8];
+        let mut room = [0; 9];
         for (buffer, list) in NUMBERS {
             room[buffer] = self.flat.lists[list].len();
         }
         room[TEXT] = self.flat.text.len();
+        room[VELOCITIES] = self.velocities.len();
         room
     }
 
@@ -80,7 +86,7 @@ impl Answer {
 
 /// Exactly as much as the answer needs; where there is none, some places, which have to be left as they were.
 pub fn full_room(found: &Found) -> Room {
-    found.as_ref().map_or([6; 8], Answer::needed)
+    found.as_ref().map_or([6; 9], Answer::needed)
 }
 
 /// What has to be told with buffers of these lengths.

@@ -1,6 +1,6 @@
 //! `pstp_midi_bars` through the C interface, with buffers whose every place is watched.
 
-use super::answer::{Answer, Room, NUMBERS, TEXT};
+use super::answer::{Answer, Room, NUMBERS, TEXT, VELOCITIES};
 use crate::lent::Lent;
 use crate::reply::Reply;
 
@@ -27,18 +27,21 @@ extern "C" {
         position_counts_n: usize,
         positions: Places,
         positions_n: usize,
+        velocities: *mut u8,
+        velocities_n: usize,
     ) -> Reply;
 }
 
-/// The eight buffers: the seven of u32 in their order, and the text.
+/// The nine buffers: the seven of u32 in their order, the text and the velocities.
 pub struct Buffers {
     numbers: [Lent<u32>; 7],
     text: Lent<u8>,
+    velocities: Lent<u8>,
 }
 
 impl Buffers {
     pub fn new() -> Self {
-        Buffers { numbers: std::array::from_fn(|_| Lent::new()), text: Lent::new() }
+        Buffers { numbers: std::array::from_fn(|_| Lent::new()), text: Lent::new(), velocities: Lent::new() }
     }
 
     pub fn lend(&mut self, room: Room) {
@@ -46,27 +49,30 @@ impl Buffers {
             lent.lend(room[buffer]);
         }
         self.text.lend(room[TEXT]);
+        self.velocities.lend(room[VELOCITIES]);
     }
 
     /// The answer stands in front, everything else is as it was; after a refusal, everything.
     pub fn hold(&self, answer: Option<&Answer>) -> bool {
         let list = |list: usize| answer.map_or(&[][..], |answer| &answer.flat.lists[list]);
         let text = answer.map_or(&[][..], |answer| &answer.flat.text);
-        self.numbers.iter().zip(NUMBERS).all(|(lent, (_, of))| lent.holds(list(of))) && self.text.holds(text)
+        let velocities = answer.map_or(&[][..], |answer| &answer.velocities);
+        let numbers = self.numbers.iter().zip(NUMBERS).all(|(lent, (_, of))| lent.holds(list(of)));
+        numbers && self.text.holds(text) && self.velocities.holds(velocities)
     }
 
     /// The first places of every buffer as they are now.
     pub fn shown(&self) -> String {
         let numbers = self.numbers.each_ref().map(|lent| &lent.now()[..lent.now().len().min(64)]);
-        let text = &self.text.now()[..self.text.now().len().min(256)];
-        format!("{numbers:x?} {text:x?}")
+        let [text, velocities] = [&self.text, &self.velocities].map(|lent| &lent.now()[..lent.now().len().min(256)]);
+        format!("{numbers:x?} {text:x?} {velocities:x?}")
     }
 }
 
 pub fn midi_bars(file: &[u8], lent: &mut Buffers) -> Reply {
     let [ids, lengths, ends, posting_counts, posting_ids, position_counts, positions] =
         lent.numbers.each_mut().map(|buffer| buffer.raw());
-    let text = lent.text.raw();
+    let (text, velocities) = (lent.text.raw(), lent.velocities.raw());
     // SAFETY: every pointer comes with the length of a slice that outlives the call, and no two lent buffers overlap.
     unsafe {
         pstp_midi_bars(
@@ -88,6 +94,8 @@ pub fn midi_bars(file: &[u8], lent: &mut Buffers) -> Reply {
             position_counts.1,
             positions.0,
             positions.1,
+            velocities.0,
+            velocities.1,
         )
     }
 }

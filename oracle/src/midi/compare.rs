@@ -52,7 +52,7 @@ impl Midi {
         }
         if !held {
             said += &format!("lent places afterwards: {}\nthe model's answer: ", self.lent.shown());
-            said += &told.map_or("as they were\n".to_string(), |answer| format!("{:x?}\n", answer.flat));
+            said += &told.map_or("as they were\n".to_string(), |answer| format!("{:x?} {:x?}\n", answer.flat, answer.velocities));
         }
         Some(said)
     }
@@ -144,5 +144,5 @@ fn some_room(random: &mut Random, full: Room) -> Room {
 
 fn any_room(random: &mut Random) -> Room {
     let most = random.pick(&[0, 1, 4, 20]);
-    [0; 8].map(|_| random.below(most + 1))
+    [0; 9].map(|_| random.below(most + 1))
 }

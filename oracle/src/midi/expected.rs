@@ -1,6 +1,6 @@
 //! Expected answers as text, one line each: reply, the lists, and phrases with the bars that they list.
 
-use super::answer::{found, full_room, in_room, reply, sound, Answer, Room, BUFFERS, NUMBERS, TEXT};
+use super::answer::{found, full_room, in_room, reply, sound, Answer, Room, BUFFERS, NUMBERS, TEXT, VELOCITIES};
 use super::compare::Midi;
 use super::phrases::{self, meeting};
 use crate::compare::{opened, Runner};
@@ -14,8 +14,10 @@ pub struct Expected {
     room: Option<Room>,
     /// kind, which, index, then first to fourth
     reply: Vec<u64>,
-    /// the eight lists as they stand in the text; one that it lacks is empty
-    lists: [String; 8],
+    /// the lists as they stand in the text; one that it lacks is empty
+    lists: [String; 9],
+    /// whether the text says velocities; where it does not, the model's alone are compared with the library's
+    pub loud: bool,
     /// notes, and the bars that list them
     phrases: Vec<(Vec<u8>, Vec<u32>)>,
 }
@@ -41,21 +43,35 @@ pub fn parsed(text: &str) -> Option<Expected> {
             "room" => expected.room = Some(numbers(value)?.try_into().ok()?),
             "reply" => expected.reply = numbers(value)?,
             "phrase" => expected.phrases.push(phrase(value)?),
-            _ => expected.lists[BUFFERS.iter().position(|name| *name == key)?] = value.to_string(),
+            _ => {
+                expected.loud |= key == BUFFERS[VELOCITIES];
+                expected.lists[BUFFERS.iter().position(|name| *name == key)?] = value.to_string();
+            }
         }
     }
     (expected.reply.len() == 7).then_some(expected)
 }
 
+impl Expected {
+    /// A refusal, or no hits.
+    pub fn empty(&self) -> bool {
+        self.reply[6] == 0
+    }
+}
+
 /// The lists of an answer in the same form.
-fn lists(answer: Option<&Answer>) -> [String; 8] {
-    let mut lists: [String; 8] = Default::default();
+fn lists(answer: Option<&Answer>, loud: bool) -> [String; 9] {
+    let mut lists: [String; 9] = Default::default();
     if let Some(answer) = answer {
         for (buffer, list) in NUMBERS {
             let words: Vec<String> = answer.flat.lists[list].iter().map(u32::to_string).collect();
             lists[buffer] = words.join(" ");
         }
         lists[TEXT] = String::from_utf8_lossy(&answer.flat.text).into();
+        if loud {
+            let words: Vec<String> = answer.velocities.iter().map(u8::to_string).collect();
+            lists[VELOCITIES] = words.join(" ");
+        }
     }
     lists
 }
@@ -77,10 +93,12 @@ pub fn check(midi: &mut Midi, runner: &mut Runner, what: &str, file: &[u8], expe
     if expected.room.is_none() {
         midi.every_room(file);
     }
-    if digits(reply(told)) != expected.reply || lists(told.ok()) != expected.lists {
-        midi.stray(format!("{what}: the model says {:?} {:?}", reply(told), lists(told.ok())));
+    let said = lists(told.ok(), expected.loud);
+    if digits(reply(told)) != expected.reply || said != expected.lists {
+        midi.stray(format!("{what}: the model says {:?} {said:?}", reply(told)));
     }
     let Ok(answer) = told else { return };
+    midi.tally.loud_as_expected += u64::from(expected.loud);
     let Some(written) = runner.ask_full(&answer.flat.case(), &opened(&[])) else {
         return midi.stray(format!("{what}: the writer refuses the lists"));
     };

@@ -69,11 +69,11 @@ fn longest(pieces: impl Fn(usize) -> Vec<u8>, end: &[u8]) -> Vec<u8> {
     bytes::file(4, &track)
 }
 
-/// Eight hits a tick by running status: 5.6 million, all different, within the bars that are allowed.
+/// Eight hits a tick by running status: 5.6 million, all different, of every velocity, within the bars that are allowed.
 fn dense(i: usize) -> Vec<u8> {
     match i {
         0 => vec![0x00, 0x99, 0x00, 0x01],
-        _ => vec![if i % 8 == 0 { 0x01 } else { 0x00 }, (i % 128) as u8, 0x7F],
+        _ => vec![if i % 8 == 0 { 0x01 } else { 0x00 }, (i % 128) as u8, 1 + (i * 11 % 127) as u8],
     }
 }
 
@@ -81,7 +81,10 @@ fn largest_file(midi: &mut Midi) {
     let files = [
         longest(dense, &END),
         longest(|_| Vec::new(), &END),
-        longest(|_| vec![0x00, 0x90, 0x24, 0x40], &END),
+        // one hit over and over: every velocity in turn, and the loudest first or last
+        longest(|i| vec![0x00, 0x90, 0x24, 1 + (i % 126) as u8], &END),
+        longest(|i| vec![0x00, 0x90, 0x24, if i == 0 { 127 } else { 126 }], &END),
+        longest(|_| vec![0x00, 0x90, 0x24, 1], &[0x00, 0x90, 0x24, 2, 0x00, 0xFF, 0x2F, 0x00]),
         longest(|_| vec![0xFF, 0xFF, 0xFF, 0x7F, 0xA0, 0x24, 0x40], &END),
         longest(|_| vec![0x00, 0xC0, 0x24], &[]),
         longest(|_| vec![0x00, 0xC0, 0x24], &[0x00, 0xFF, 0x2F]),

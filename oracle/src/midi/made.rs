@@ -1,7 +1,9 @@
 //! A file that was made: its track, where its events stand, and the notes that were struck.
 
 use super::bytes;
-use super::model::{Hit, Hits, LAST_BAR};
+use super::loud::Loud;
+use super::model::{Hit, LAST_BAR};
+use std::collections::BTreeSet;
 
 /// What a made file can have; the run counts it over the files that are accepted.
 #[derive(Clone, Copy)]
@@ -43,6 +45,17 @@ pub const TRAITS: [(Trait, &str); 16] = [
     (Trait::EveryNote, "files that strike all 128 notes"),
 ];
 
+/// A hit as it was struck.
+#[derive(Clone, Copy)]
+pub struct Struck {
+    pub note: u8,
+    pub tick: u64,
+    pub channel: u8,
+    pub velocity: u8,
+    /// of its step
+    pub last_tick: bool,
+}
+
 pub struct Made {
     pub division: u16,
     pub track: Vec<u8>,
@@ -50,8 +63,7 @@ pub struct Made {
     pub events: Vec<usize>,
     /// the running status before each event
     pub running: Vec<Option<u8>>,
-    /// each hit's note and tick
-    pub struck: Vec<(u8, u64)>,
+    pub struck: Vec<Struck>,
     pub traits: [u64; TRAITS.len()],
 }
 
@@ -61,13 +73,17 @@ impl Made {
     }
 
     /// The hits as they were struck; none if one is beyond bar 65,535.
-    pub fn hits(&self) -> Option<Hits> {
+    pub fn hits(&self) -> Option<BTreeSet<Hit>> {
         let step = u64::from(self.division) / 4;
-        let place = |(note, tick): &(u8, u64)| {
-            let bar = tick / (16 * step);
-            let position = (tick - bar * 16 * step) / step;
-            (bar <= LAST_BAR).then_some(Hit { note: *note, bar: bar as u32, position: position as u32 })
+        let place = |struck: &Struck| {
+            let bar = struck.tick / (16 * step);
+            let position = (struck.tick - bar * 16 * step) / step;
+            (bar <= LAST_BAR).then_some(Hit { note: struck.note, bar: bar as u32, position: position as u32 })
         };
         self.struck.iter().map(place).collect()
+    }
+
+    pub fn loud(&self) -> Loud {
+        Loud::of(u64::from(self.division) / 4, &self.struck)
     }
 }

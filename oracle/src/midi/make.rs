@@ -1,7 +1,7 @@
 //! Files that keep to wish 2's rules, with every sort of event; the maker notes down the notes that it strikes.
 
 use super::bytes::{variable_length, END_OF_TRACK, LARGEST_DELTA};
-use super::made::{Made, Trait, TRAITS};
+use super::made::{Made, Struck, Trait, TRAITS};
 use super::model::{FIRST_EVENT, LAST_BAR};
 use crate::random::Random;
 
@@ -114,15 +114,17 @@ impl Maker<'_> {
         }
     }
 
-    /// A note-on sounds in the same step again, or any event of any kind follows.
+    /// A note-on sounds in the same step again, other notes between or not, or any event of any kind follows.
     fn any_event(&mut self) {
-        if self.random.chance(12) && !matches!(self.notes, Notes::Rising) {
-            if let Some((note, tick)) = self.made.struck.last().copied() {
-                if tick / self.step == self.tick / self.step {
+        if self.random.chance(25) && !matches!(self.notes, Notes::Rising) {
+            let back = self.random.pick(&[1, 1, 2, 3]).min(self.made.struck.len());
+            if let Some(struck) = self.made.struck.iter().nth_back(back.max(1) - 1).copied() {
+                if struck.tick / self.step == self.tick / self.step {
                     let rest = self.step - 1 - self.tick % self.step;
-                    let delta = self.random.below(rest as usize + 1) as u64;
+                    let any = self.random.below(rest as usize + 1) as u64;
+                    let delta = self.random.pick(&[0, any, any, rest]);
                     self.count(Trait::EqualHit);
-                    return self.strike(note, delta);
+                    return self.strike(struck.note, delta);
                 }
             }
         }
@@ -161,9 +163,11 @@ impl Maker<'_> {
     fn strike(&mut self, note: u8, delta: u64) {
         self.after(delta);
         let bar = 16 * self.step;
-        let velocity = self.random.pick(&[1, 2, 64, 100, 127]);
-        self.put_message(0x90, &[note, velocity]);
-        self.made.struck.push((note, self.tick));
+        let any = self.random.small(1, 127) as u8;
+        let velocity = self.random.pick(&[1, 2, 64, 126, 127, any, any, any, any]);
+        let channel = self.put_message(0x90, &[note, velocity]) & 0x0F;
+        let last_tick = self.tick % self.step == self.step - 1;
+        self.made.struck.push(Struck { note, tick: self.tick, channel, velocity, last_tick });
         self.count(Trait::Hit);
         for (what, holds) in [
             (Trait::OnBarLine, self.tick % bar == 0),
@@ -183,12 +187,12 @@ impl Maker<'_> {
             Trait::VelocityZero => self.put_message(kind, &[one, 0]),
             Trait::OneDataByte => self.put_message(kind, &[one]),
             _ => self.put_message(kind, &[one, other]),
-        }
+        };
         self.count(what);
     }
 
-    /// The status is left out, sometimes, where it is the running one.
-    fn put_message(&mut self, kind: u8, data: &[u8]) {
+    /// The status is left out, sometimes, where it is the running one; gives it.
+    fn put_message(&mut self, kind: u8, data: &[u8]) -> u8 {
         let again = self.running.filter(|status| status & 0xF0 == kind && self.random.chance(80));
         let status = again.unwrap_or(kind | self.random.pick(&self.channels));
         if self.running == Some(status) && self.random.chance(85) {
@@ -198,6 +202,7 @@ impl Maker<'_> {
         }
         self.made.track.extend(data);
         self.running = Some(status);
+        status
     }
 
     fn meta(&mut self, delta: u64) {
@@ -266,7 +271,7 @@ impl Maker<'_> {
         let delta = if self.random.chance(70) { 0 } else { self.delta() };
         self.after(delta);
         self.made.track.extend(END_OF_TRACK);
-        let mut notes: Vec<u8> = self.made.struck.iter().map(|(note, _)| *note).collect();
+        let mut notes: Vec<u8> = self.made.struck.iter().map(|struck| struck.note).collect();
         notes.sort();
         notes.dedup();
         if notes.len() == 128 {

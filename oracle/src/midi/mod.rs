@@ -1,9 +1,9 @@
-//! `pstp_midi_bars` beside a model of wish 2, which the Rust does not have. Read in this order:
+//! `pstp_midi_bars` beside a model of wishes 2 and 9, which the Rust does not have. Read in this order:
 //!   clause, model, answer        the rules from document 02's words: the clauses, a file's hits, what the call answers
 //!   call, compare, tally         the library through the C interface; one file by both; what was reached
 //!   expected, worked, real       files with their answers as text: worked out by hand, and written by other programs
 //!   bytes, small, limits         whole small spaces, and the ends of what is allowed
-//!   made, make, spoil, bad_event, phrases, rounds      random files
+//!   made, make, loud, spoil, bad_event, phrases, rounds      random files
 //!   shrink, sample               a file as text and made smaller, and as a record of the replay list
 
 mod answer;
@@ -14,6 +14,7 @@ mod clause;
 mod compare;
 mod expected;
 mod limits;
+mod loud;
 mod made;
 mod make;
 mod model;

@@ -1,9 +1,9 @@
-//! Wish 2 from the words of document 02: a Standard MIDI File of format 0 and its hits, or the first clause that it breaks.
+//! Wishes 2 and 9 from the words of document 02: a Standard MIDI File of format 0 and its hits, or the first clause that it breaks.
 
 use super::clause::{Broken, Clause};
-use std::collections::BTreeSet;
+use std::collections::BTreeMap;
 
-/// A note-on with velocity above 0: its note, and the bar and position of its step. A set of them counts equal ones once.
+/// A note-on with velocity above 0: its note, and the bar and position of its step.
 #[derive(Clone, Copy, Debug, PartialEq, Eq, PartialOrd, Ord)]
 pub struct Hit {
     pub note: u8,
@@ -11,7 +11,8 @@ pub struct Hit {
     pub position: u32,
 }
 
-pub type Hits = BTreeSet<Hit>;
+/// Each hit once, with its velocity: of equal ones the loudest is kept.
+pub type Hits = BTreeMap<Hit, u8>;
 
 pub const LARGEST_FILE: usize = 16_777_216;
 pub const LAST_BAR: u64 = 65_535;
@@ -87,7 +88,9 @@ fn track(file: &[u8], division: u64) -> Result<Hits, Broken> {
         running = match event {
             Event::Message { status, data: [note, velocity] } => {
                 if status & 0xF0 == 0x90 && velocity > 0 {
-                    hits.insert(hit(note, tick, division).ok_or(Clause::TooFar.at(0))?);
+                    let hit = hit(note, tick, division).ok_or(Clause::TooFar.at(0))?;
+                    let kept = hits.get(&hit).copied().unwrap_or(0);
+                    hits.insert(hit, kept.max(velocity));
                 }
                 Ok(status)
             }

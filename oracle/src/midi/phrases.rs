@@ -11,10 +11,10 @@ use std::collections::BTreeSet;
 
 /// The bars in which the file's own notes meet a phrase: some start has note i on step start + i, all within the bar.
 pub fn meeting(hits: &Hits, phrase: &[u8]) -> Vec<u32> {
-    let bars: BTreeSet<u32> = hits.iter().map(|hit| hit.bar).collect();
+    let bars: BTreeSet<u32> = hits.keys().map(|hit| hit.bar).collect();
     let meets = |bar: u32, start: u32| {
         let steps = (start..).zip(phrase);
-        !phrase.is_empty() && steps.into_iter().all(|(position, note)| hits.contains(&Hit { note: *note, bar, position }))
+        !phrase.is_empty() && steps.into_iter().all(|(position, note)| hits.contains_key(&Hit { note: *note, bar, position }))
     };
     bars.into_iter().filter(|bar| (0..BAR_LENGTH).any(|start| meets(*bar, start))).collect()
 }
@@ -71,7 +71,7 @@ pub fn written_and_asked(runner: &mut Runner, random: &mut Random, answer: &Answ
         runner.sheets.some_of(&segment, &given, 1);
     }
     // a phrase is looked for among few hits only, which keeps long files quick
-    let all: Vec<Hit> = answer.hits.iter().take(400).copied().collect();
+    let all: Vec<Hit> = answer.hits.keys().take(400).copied().collect();
     for _ in 0..count {
         let phrase = some_phrase(random, &all);
         ask(runner, &segment, &answer.hits, &phrase)?;

@@ -3,12 +3,14 @@
 use super::compare::Midi;
 use super::made::Made;
 use super::make::made;
+use super::model::Hit;
 use super::phrases::written_and_asked;
 use super::spoil::{spoiled, Known};
 use crate::compare::Runner;
 use crate::random::Random;
 use crate::reply::Refusal;
 use crate::show::hex;
+use std::collections::BTreeSet;
 
 /// More bars than this are written seldom, which keeps the run quick.
 const MANY_BARS: u64 = 2000;
@@ -17,14 +19,19 @@ fn keeping(midi: &mut Midi, runner: &mut Runner, random: &mut Random, made: &Mad
     let file = made.file();
     midi.tally.files += 1;
     let found = midi.ask(random, &file);
-    let read = found.as_ref().map_or_else(|broken| Err(Refusal::from(*broken)), |answer| Ok(&answer.hits));
+    let read = found.as_ref().map_or_else(|broken| Err(Refusal::from(*broken)), |answer| Ok(answer.hits.keys().copied()));
+    let read: Result<BTreeSet<Hit>, Refusal> = read.map(Iterator::collect);
     match made.hits() {
-        Some(hits) if read != Ok(&hits) => return midi.stray(format!("{}: struck were {hits:?}", hex(&file))),
-        None if read != Err(Refusal::of_kind(15)) => return midi.stray(format!("{}: a hit is too far", hex(&file))),
+        Some(hits) if read.as_ref() != Ok(&hits) => return midi.stray(format!("{}: struck were {hits:?}", hex(&file))),
+        None if read.as_ref() != Err(&Refusal::of_kind(15)) => return midi.stray(format!("{}: a hit is too far", hex(&file))),
         _ => midi.tally.read_as_made += 1,
     }
     let Ok(answer) = found else { return };
-    midi.tally.count_made(made);
+    let loud = made.loud();
+    if !loud.beside(&answer) {
+        return midi.stray(format!("{}: the velocities are not as the notes were struck", hex(&file)));
+    }
+    midi.tally.count_made(made, &loud, &answer.velocities);
     if answer.reply().first <= MANY_BARS || random.chance(5) {
         match written_and_asked(runner, random, &answer, 2) {
             Ok(phrases) => {

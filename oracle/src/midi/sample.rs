@@ -1,6 +1,6 @@
-//! The replay list of MIDI files: some cases of every clause with the model's answers, in the format of README.md.
+//! The replay list of MIDI files: some cases of every clause with the model's answers, in the format of README.md, which has no velocities.
 
-use super::answer::{reply, Room, Told, Why, NUMBERS, TEXT};
+use super::answer::{reply, Room, Told, Why, NUMBERS, TEXT, VELOCITIES};
 use super::clause::{Clause, CLAUSES};
 use crate::lent::Place;
 use std::collections::BTreeMap;
@@ -40,12 +40,12 @@ fn record(file: &[u8], room: Room, told: Told) -> Vec<u8> {
     for number in [reply.index, reply.first, reply.second, reply.third, reply.fourth] {
         bytes.extend(number.to_le_bytes());
     }
-    for length in [file.len()].iter().chain(&room) {
+    for length in [file.len()].iter().chain(&room[..VELOCITIES]) {
         bytes.extend((*length as u32).to_le_bytes());
     }
     bytes.extend(file);
     let answer = told.ok();
-    for (buffer, places) in room.into_iter().enumerate() {
+    for (buffer, places) in room.into_iter().enumerate().take(VELOCITIES) {
         if let Some((_, list)) = NUMBERS.iter().find(|(number, _)| *number == buffer) {
             let numbers = filled(answer.map_or(&[][..], |answer| &answer.flat.lists[*list]), places);
             bytes.extend(numbers.iter().flat_map(|number| number.to_le_bytes()));
@@ -62,7 +62,7 @@ fn sort(room: Room, told: Told) -> Sort {
     match told {
         Ok(answer) => {
             let reply = answer.reply();
-            (None, [reply.first.min(3), reply.second.min(3)], room != answer.needed())
+            (None, [reply.first.min(3), reply.second.min(3)], room[..VELOCITIES] != answer.needed()[..VELOCITIES])
         }
         Err((why, _)) => (Some(why), [0; 2], false),
     }
@@ -89,7 +89,8 @@ impl Sample {
 
     /// Takes a case whatever its sort, unless it is too long or was taken before.
     pub fn take(&mut self, file: &[u8], room: Room, told: Told) {
-        if !fits(file, room) {
+        let no_velocities = matches!(told, Err((Why::NoRoom(buffer), _)) if buffer as usize == VELOCITIES + 1);
+        if no_velocities || !fits(file, room) {
             return;
         }
         let record = record(file, room, told);

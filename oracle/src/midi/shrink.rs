@@ -19,7 +19,7 @@ pub fn shown(kept: &Kept) -> String {
     format!("--midi-case '{} room={room}'", hex(&kept.file))
 }
 
-/// Hex, blanks between its digits or not, and the eight buffers' lengths; without them, they are exactly full.
+/// Hex, blanks between its digits or not, and the nine buffers' lengths; without them, they are exactly full.
 fn parsed(line: &str) -> Option<Kept> {
     let (digits, room) = line.split_once("room=").map_or((line, None), |(digits, room)| (digits, Some(room)));
     let file = unhex(&digits.split_whitespace().collect::<String>())?;
