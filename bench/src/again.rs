@@ -12,8 +12,8 @@ fn report(taken: Vec<f64>) {
 
 pub fn again(name: &str, documents: usize, times: usize) {
     if let Some((_, file)) = midi::files(documents.max(4096)).into_iter().find(|(of, _)| *of == name) {
-        let mut lists = midi::enough(file.len());
-        return report((0..times).map(|_| measure::once(|| library::midi_bars(&file, &mut lists)).0).collect());
+        let (mut lists, mut velocities) = midi::enough(file.len());
+        return report((0..times).map(|_| measure::once(|| library::midi_bars(&file, &mut lists, &mut velocities)).0).collect());
     }
     let lists = data::bars(documents);
     let bytes = fast::write(&fast::given(&lists));

@@ -103,6 +103,8 @@ extern "C" {
         g: usize,
         positions: Lent,
         h: usize,
+        velocities: *mut u8,
+        i: usize,
     ) -> Reply;
 }
 
@@ -190,8 +192,8 @@ pub fn write(l: &Lists, out: &mut [u8]) -> Reply {
     }
 }
 
-/// The bars of a MIDI file, in lists that are lent.
-pub fn midi_bars(file: &[u8], l: &mut Lists) -> Reply {
+/// The bars of a MIDI file and their velocities, in lists that are lent.
+pub fn midi_bars(file: &[u8], l: &mut Lists, velocities: &mut [u8]) -> Reply {
     unsafe {
         pstp_midi_bars(
             file.as_ptr(),
@@ -212,6 +214,8 @@ pub fn midi_bars(file: &[u8], l: &mut Lists) -> Reply {
             l.position_counts.len(),
             l.positions.as_mut_ptr(),
             l.positions.len(),
+            velocities.as_mut_ptr(),
+            velocities.len(),
         )
     }
 }

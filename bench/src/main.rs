@@ -85,9 +85,9 @@ fn depths() -> Vec<(String, Vec<usize>)> {
     });
     let looked_up = lookup::depth(&lists.ids, &lists.lengths);
     let (_, file) = midi::files(1 << 16).remove(2);
-    let mut lists = midi::enough(file.len());
+    let (mut lists, mut velocities) = midi::enough(file.len());
     let imported = stack::depth(&mut || {
-        black_box(library::midi_bars(&file, &mut lists));
+        black_box(library::midi_bars(&file, &mut lists, &mut velocities));
     });
     let others = [("open_once", once), ("check", check), ("write", written), ("midi_bars", imported)];
     let others = others.into_iter().chain(pad::depths()).chain([("length_of", looked_up)]);

@@ -62,7 +62,7 @@ fn dense(bytes: usize, pairs: u32) -> Vec<u8> {
     for hit in 0..hits {
         let step = (hit as u64 * (65_536 * 16) / hits as u64) as u32;
         let note = 2 * (step / 16 % pairs) + hit as u32 % 2;
-        track.note(step - before, note, 100);
+        track.note(step - before, note, 1 + hit as u32 % 127);
         before = step;
     }
     track.whole()
@@ -72,7 +72,7 @@ fn dense(bytes: usize, pairs: u32) -> Vec<u8> {
 fn postings(bytes: usize) -> Vec<u8> {
     let mut track = Track::new(4);
     for hit in 0..((bytes - 27) / 3) as u32 {
-        track.note(if hit % 128 == 0 && hit > 0 { 17 } else { 0 }, hit % 128, 100);
+        track.note(if hit % 128 == 0 && hit > 0 { 17 } else { 0 }, hit % 128, 1 + hit % 127);
     }
     track.whole()
 }
@@ -137,9 +137,9 @@ pub fn files(bytes: usize) -> Vec<(&'static str, Vec<u8>)> {
     ]
 }
 
-/// What is always enough for a file.
-pub fn enough(bytes: usize) -> Lists {
-    Lists {
+/// What is always enough for a file: the lists, and the velocities.
+pub fn enough(bytes: usize) -> (Lists, Vec<u8>) {
+    let lists = Lists {
         ids: vec![0; 65_536],
         lengths: vec![0; 65_536],
         text: vec![0; 512],
@@ -148,7 +148,8 @@ pub fn enough(bytes: usize) -> Lists {
         posting_ids: vec![0; bytes / 3],
         position_counts: vec![0; bytes / 3],
         positions: vec![0; bytes / 3],
-    }
+    };
+    (lists, vec![0; bytes / 3])
 }
 
 /// Medians for one file, in nanoseconds: the library, the plain reader.
@@ -162,9 +163,9 @@ pub struct Midi {
 
 fn time_file(name: &'static str, file: &[u8], count: usize) -> Midi {
     eprintln!("MIDI: {name}");
-    let want = plain::read(file).expect("a good file");
-    let mut lists = enough(file.len());
-    let reply = library::midi_bars(file, &mut lists);
+    let (want, loud) = plain::read(file).expect("a good file");
+    let (mut lists, mut velocities) = enough(file.len());
+    let reply = library::midi_bars(file, &mut lists, &mut velocities);
     assert_eq!(reply.kind, 0, "{name} is refused: {reply:?}");
     let [bars, sounds, postings, positions] = [reply.first, reply.second, reply.third, reply.fourth].map(|n| n as usize);
     assert!(lists.ids[..bars] == want.ids && lists.lengths[..bars] == want.lengths, "{name}: bars differ");
@@ -173,11 +174,12 @@ fn time_file(name: &'static str, file: &[u8], count: usize) -> Midi {
     assert!(lists.posting_ids[..postings] == want.posting_ids, "{name}: posting ids differ");
     assert!(lists.position_counts[..postings] == want.position_counts, "{name}: position counts differ");
     assert!(lists.positions[..positions] == want.positions, "{name}: positions differ");
+    assert!(velocities[..positions] == loud, "{name}: velocities differ");
     let times = rounds(
         count,
         &mut [
             &mut || {
-                black_box(library::midi_bars(black_box(file), &mut lists));
+                black_box(library::midi_bars(black_box(file), &mut lists, &mut velocities));
             },
             &mut || drop(black_box(plain::read(black_box(file)))),
         ],

@@ -3,33 +3,53 @@ use crate::data::Random;
 use crate::library::{Bytes, Lent, Numbers, Reply};
 use crate::measure::{rounds, Timed};
 use crate::originals::{fast, table};
-use crate::plain_pad::{Map, WORDS};
+use crate::plain_pad::{Hits, Map, Room, WORDS};
 use crate::stack;
 use std::collections::BTreeSet;
 use std::hint::black_box;
 
 extern "C" {
-    fn pstp_pad_save(p: Lent, n: usize, id: u32, length: u32, sounds: Bytes, a: usize, steps: Numbers, b: usize) -> Reply;
+    fn pstp_pad_save(
+        p: Lent,
+        n: usize,
+        id: u32,
+        length: u32,
+        sounds: Bytes,
+        a: usize,
+        steps: Numbers,
+        b: usize,
+        velocities: Bytes,
+        c: usize,
+    ) -> Reply;
     fn pstp_pad_erase(p: Lent, n: usize, id: u32) -> Reply;
-    fn pstp_pad_read(p: Numbers, n: usize, id: u32, sounds: *mut u8, a: usize, steps: Lent, b: usize) -> Reply;
+    fn pstp_pad_read(
+        p: Numbers,
+        n: usize,
+        id: u32,
+        sounds: *mut u8,
+        a: usize,
+        steps: Lent,
+        b: usize,
+        velocities: *mut u8,
+        c: usize,
+    ) -> Reply;
     fn pstp_pad_write(p: Numbers, n: usize, text: Bytes, a: usize, ends: Numbers, b: usize, out: *mut u8, l: usize) -> Reply;
     fn pstp_pad_hits(p: Numbers, n: usize) -> Reply;
 }
 
 fn save(pad: &mut [u32], bar: &Given) -> Reply {
-    let Given { id, length, sounds, steps } = bar;
-    unsafe {
-        pstp_pad_save(pad.as_mut_ptr(), pad.len(), *id, *length, sounds.as_ptr(), sounds.len(), steps.as_ptr(), steps.len())
-    }
+    let (p, n, (sounds, steps, velocities)) = (pad.as_mut_ptr(), pad.len(), bar.hits());
+    let ((a, b, c), k) = ((sounds.as_ptr(), steps.as_ptr(), velocities.as_ptr()), sounds.len());
+    unsafe { pstp_pad_save(p, n, bar.id, bar.length, a, k, b, steps.len(), c, velocities.len()) }
 }
 
 fn erase(pad: &mut [u32], id: u32) -> Reply {
     unsafe { pstp_pad_erase(pad.as_mut_ptr(), pad.len(), id) }
 }
 
-fn read(pad: &[u32], id: u32, (sounds, steps): &mut (Vec<u8>, Vec<u32>)) -> Reply {
-    let (p, n) = (pad.as_ptr(), pad.len());
-    unsafe { pstp_pad_read(p, n, id, sounds.as_mut_ptr(), sounds.len(), steps.as_mut_ptr(), steps.len()) }
+fn read(pad: &[u32], id: u32, (sounds, steps, velocities): &mut Room) -> Reply {
+    let (p, n, a, b, c) = (pad.as_ptr(), pad.len(), sounds.len(), steps.len(), velocities.len());
+    unsafe { pstp_pad_read(p, n, id, sounds.as_mut_ptr(), a, steps.as_mut_ptr(), b, velocities.as_mut_ptr(), c) }
 }
 
 fn write(pad: &[u32], names: &Names, out: &mut [u8]) -> Reply {
@@ -48,6 +68,13 @@ struct Given {
     length: u32,
     sounds: Vec<u8>,
     steps: Vec<u32>,
+    velocities: Vec<u8>,
+}
+
+impl Given {
+    fn hits(&self) -> Hits<'_> {
+        (&self.sounds, &self.steps, &self.velocities)
+    }
 }
 
 /// The names of all 128 sounds.
@@ -63,7 +90,7 @@ fn names() -> Names {
     Names { text: each.concat().into_bytes(), each, ends }
 }
 
-/// Bars of 64 steps, ids three apart, each with so many hits of any sounds.
+/// Bars of 64 steps, ids three apart, each with so many hits of any sounds and velocities.
 fn bars(count: usize, hits: usize) -> Vec<Given> {
     let mut random = Random((count * hits) as u64);
     let bar = |i: usize| {
@@ -72,7 +99,8 @@ fn bars(count: usize, hits: usize) -> Vec<Given> {
             all.insert((random.below(128) as u8, random.below(64)));
         }
         let (sounds, steps) = all.into_iter().unzip();
-        Given { id: 3 * i as u32 + 2, length: 64, sounds, steps }
+        let velocities = (0..hits).map(|_| 1 + random.below(127) as u8).collect();
+        Given { id: 3 * i as u32 + 2, length: 64, sounds, steps, velocities }
     };
     (0..count).map(bar).collect()
 }
@@ -83,7 +111,7 @@ fn recorded(bars: &[Given]) -> (Vec<u32>, Map) {
     // the last first, so that each moves those before it
     for bar in bars.iter().rev() {
         let reply = save(&mut pad, bar);
-        assert_eq!((reply.kind, Ok(reply.first as usize)), (0, map.save(bar.id, bar.length, &bar.sounds, &bar.steps)));
+        assert_eq!((reply.kind, Ok(reply.first as usize)), (0, map.save(bar.id, bar.length, bar.hits())));
     }
     let mut words = vec![0; WORDS];
     map.to_words(&mut words);
@@ -101,15 +129,20 @@ fn compare_written(pad: &[u32], map: &Map, names: &Names, out: &mut [u8]) -> usi
     right.len()
 }
 
+/// Places for so many hits.
+fn room(hits: usize) -> Room {
+    (vec![0; hits], vec![0; hits], vec![0; hits])
+}
+
 /// What reading back fills is what the map has.
-fn compare_read(pad: &[u32], map: &Map, bar: &Given, lent: &mut (Vec<u8>, Vec<u32>)) {
+fn compare_read(pad: &[u32], map: &Map, bar: &Given, lent: &mut Room) {
     let n = bar.sounds.len();
     let reply = read(pad, bar.id, lent);
     assert_eq!((reply.kind, reply.first, reply.second), (0, n as u64, bar.length as u64), "read");
-    assert!(lent.0[..n] == bar.sounds && lent.1[..n] == bar.steps, "what was read differs");
-    let (mut sounds, mut steps) = (vec![0; n], vec![0; n]);
-    assert_eq!(map.read(bar.id, &mut sounds, &mut steps), Ok((n, bar.length)));
-    assert!(sounds == bar.sounds && steps == bar.steps, "what the map has differs");
+    assert!((&lent.0[..n], &lent.1[..n], &lent.2[..n]) == bar.hits(), "what was read differs");
+    let mut own = room(n);
+    assert_eq!(map.read(bar.id, &mut own), Ok((n, bar.length)));
+    assert!((&own.0[..], &own.1[..], &own.2[..]) == bar.hits(), "what the map has differs");
 }
 
 /// Who runs: in calls the library, the map that is kept and the one that is read from the words; in writing out the library, and the
@@ -144,15 +177,14 @@ fn held(words: &[u32]) -> Map {
 }
 
 fn time_read(pad: &[u32], map: &Map, bar: &Given, count: usize) -> Timed {
-    let room = || (vec![0u8; 8192], vec![0u32; 8192]);
-    let (mut lent, mut own, mut other) = (room(), room(), room());
+    let (mut lent, mut own, mut other) = (room(8192), room(8192), room(8192));
     compare_read(pad, map, bar, &mut lent);
     Timed(rounds(
         count,
         &mut [
             &mut || assert_eq!(black_box(read(black_box(pad), bar.id, &mut lent)).kind, 0),
-            &mut || assert!(black_box(map.read(black_box(bar.id), &mut own.0, &mut own.1)).is_ok()),
-            &mut || assert!(black_box(held(pad).read(bar.id, &mut other.0, &mut other.1)).is_ok()),
+            &mut || assert!(black_box(map.read(black_box(bar.id), &mut own)).is_ok()),
+            &mut || assert!(black_box(held(pad).read(bar.id, &mut other)).is_ok()),
         ],
     ))
 }
@@ -160,7 +192,7 @@ fn time_read(pad: &[u32], map: &Map, bar: &Given, count: usize) -> Timed {
 /// The bar erased and saved again: two calls.
 fn time_again(pad: &mut [u32], map: &mut Map, bar: &Given, count: usize) -> Timed {
     let mut words = pad.to_vec();
-    let save_in = |map: &mut Map| map.save(bar.id, bar.length, black_box(&bar.sounds), black_box(&bar.steps));
+    let save_in = |map: &mut Map| map.save(bar.id, bar.length, black_box(bar.hits()));
     Timed(rounds(
         count,
         &mut [
@@ -187,7 +219,7 @@ fn time_again(pad: &mut [u32], map: &mut Map, bar: &Given, count: usize) -> Time
 /// A save that is refused, since its id is held: what every call does first, and no more.
 fn time_held(pad: &mut [u32], map: &mut Map, bar: &Given, count: usize) -> Timed {
     let words = pad.to_vec();
-    let save_in = |map: &mut Map| assert_eq!(map.save(black_box(bar.id), bar.length, &bar.sounds, &bar.steps), Err(18));
+    let save_in = |map: &mut Map| assert_eq!(map.save(black_box(bar.id), bar.length, bar.hits()), Err(18));
     Timed(rounds(
         count,
         &mut [&mut || assert_eq!(save(black_box(pad), bar).kind, 18), &mut || save_in(map), &mut || save_in(&mut held(&words))],
@@ -251,7 +283,7 @@ pub fn depths() -> [(&'static str, usize); 5] {
     let bars = bars(256, 32);
     let (mut pad, _) = recorded(&bars);
     let (names, bar) = (names(), &bars[0]);
-    let mut lent = (vec![0; 32], vec![0; 32]);
+    let mut lent = room(32);
     let mut out = vec![0; 1 << 18];
     let hits = stack::depth(&mut || assert_eq!(black_box(hits(&pad)).kind, 0));
     let read = stack::depth(&mut || assert_eq!(black_box(read(&pad, bar.id, &mut lent)).kind, 0));

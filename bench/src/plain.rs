@@ -1,4 +1,4 @@
-//! A MIDI reader as it is ordinarily written in Rust for speed: one pass over the bytes, a vector of steps for each note, then the lists.
+//! A MIDI reader as it is ordinarily written in Rust for speed: one pass over the bytes, a vector of hits for each note, then the lists.
 //! It has the same rules as the library's, and answers nothing where a file is refused.
 use crate::data::Lists;
 
@@ -15,7 +15,11 @@ fn number(track: &[u8], at: &mut usize) -> Option<u32> {
     None
 }
 
-pub fn read(file: &[u8]) -> Option<Lists> {
+/// A step and a velocity.
+type Hit = (u32, u8);
+
+/// The lists, and the velocities side by side with the positions.
+pub fn read(file: &[u8]) -> Option<(Lists, Vec<u8>)> {
     let (head, track) = file.split_at_checked(22)?;
     let division = u16::from_be_bytes([head[12], head[13]]) as u64;
     let length = u32::from_be_bytes([head[18], head[19], head[20], head[21]]) as usize;
@@ -24,7 +28,7 @@ pub fn read(file: &[u8]) -> Option<Lists> {
         return None;
     }
     let quarter = division / 4;
-    let mut steps: Vec<Vec<u32>> = vec![Vec::new(); 128];
+    let mut hits: Vec<Vec<Hit>> = vec![Vec::new(); 128];
     let (mut at, mut tick, mut running) = (0, 0u64, 0);
     loop {
         tick += number(track, &mut at)? as u64;
@@ -47,9 +51,10 @@ pub fn read(file: &[u8]) -> Option<Lists> {
                     if step >= 65_536 * 16 {
                         return None;
                     }
-                    let own = &mut steps[note as usize];
-                    if own.last() != Some(&(step as u32)) {
-                        own.push(step as u32);
+                    let own = &mut hits[note as usize];
+                    match own.last_mut() {
+                        Some(last) if last.0 == step as u32 => last.1 = last.1.max(velocity),
+                        _ => own.push((step as u32, velocity)),
                     }
                 }
             }
@@ -65,7 +70,7 @@ pub fn read(file: &[u8]) -> Option<Lists> {
                     let kind = *track.get(at)?;
                     at += 1;
                     if kind == 0x2F {
-                        return (track[at..] == [0]).then(|| lists(&steps));
+                        return (track[at..] == [0]).then(|| lists(&hits));
                     }
                     if kind > 127 {
                         return None;
@@ -79,20 +84,22 @@ pub fn read(file: &[u8]) -> Option<Lists> {
     }
 }
 
-/// The eight lists of the steps of each note, which rise.
-fn lists(steps: &[Vec<u32>]) -> Lists {
-    let bars = steps.iter().filter_map(|own| own.last()).max().map_or(0, |step| step / 16 + 1);
+/// The nine lists of the hits of each note, whose steps rise.
+fn lists(hits: &[Vec<Hit>]) -> (Lists, Vec<u8>) {
+    let bars = hits.iter().filter_map(|own| own.last()).map(|hit| hit.0 / 16 + 1).max().unwrap_or(0);
     let mut lists = Lists { ids: (0..bars).collect(), lengths: vec![16; bars as usize], ..Lists::default() };
-    for (note, own) in steps.iter().enumerate().filter(|(_, own)| !own.is_empty()) {
+    let mut velocities = Vec::new();
+    for (note, own) in hits.iter().enumerate().filter(|(_, own)| !own.is_empty()) {
         let before = lists.posting_ids.len();
-        for in_bar in own.chunk_by(|a, b| a / 16 == b / 16) {
-            lists.posting_ids.push(in_bar[0] / 16);
+        for in_bar in own.chunk_by(|a, b| a.0 / 16 == b.0 / 16) {
+            lists.posting_ids.push(in_bar[0].0 / 16);
             lists.position_counts.push(in_bar.len() as u32);
-            lists.positions.extend(in_bar.iter().map(|step| step % 16));
+            lists.positions.extend(in_bar.iter().map(|hit| hit.0 % 16));
+            velocities.extend(in_bar.iter().map(|hit| hit.1));
         }
         lists.text.extend_from_slice(format!("n{note:03}").as_bytes());
         lists.ends.push(lists.text.len() as u32);
         lists.posting_counts.push((lists.posting_ids.len() - before) as u32);
     }
-    lists
+    (lists, velocities)
 }

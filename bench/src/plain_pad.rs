@@ -7,8 +7,14 @@ pub const WORDS: usize = 17_154;
 const BARS: usize = 256;
 const HITS: usize = 8192;
 
-/// A sound and a step.
-type Hit = (u8, u32);
+/// A sound, a step and a velocity.
+type Hit = (u8, u32, u8);
+
+/// What a save is handed: sounds, steps and velocities.
+pub type Hits<'a> = (&'a [u8], &'a [u32], &'a [u8]);
+
+/// What reading back fills: the same three.
+pub type Room = (Vec<u8>, Vec<u32>, Vec<u8>);
 
 #[derive(PartialEq, Eq, Debug)]
 struct Bar {
@@ -29,7 +35,10 @@ fn hits_fine(length: u32, hits: &[Hit]) -> Result<(), Kind> {
     if hits.iter().any(|hit| hit.0 > 127) {
         return Err(12);
     }
-    let rise = hits.windows(2).all(|pair| pair[0] < pair[1]);
+    if hits.iter().any(|hit| !(1..=127).contains(&hit.2)) {
+        return Err(22);
+    }
+    let rise = hits.windows(2).all(|pair| (pair[0].0, pair[0].1) < (pair[1].0, pair[1].1));
     if !rise || hits.iter().any(|hit| hit.1 >= length) {
         return Err(6);
     }
@@ -37,14 +46,15 @@ fn hits_fine(length: u32, hits: &[Hit]) -> Result<(), Kind> {
 }
 
 impl Map {
-    pub fn save(&mut self, id: u32, length: u32, sounds: &[u8], steps: &[u32]) -> Result<usize, Kind> {
+    pub fn save(&mut self, id: u32, length: u32, (sounds, steps, velocities): Hits) -> Result<usize, Kind> {
         if self.bars.contains_key(&id) {
             return Err(18);
         }
-        if sounds.len() != steps.len() {
+        if sounds.len() != steps.len() || steps.len() != velocities.len() {
             return Err(11);
         }
-        let hits: Vec<Hit> = sounds.iter().copied().zip(steps.iter().copied()).collect();
+        let side_by_side = sounds.iter().zip(steps).zip(velocities);
+        let hits: Vec<Hit> = side_by_side.map(|((sound, step), velocity)| (*sound, *step, *velocity)).collect();
         hits_fine(length, &hits)?;
         let count = hits.len();
         if self.bars.len() == BARS || self.hits + count > HITS {
@@ -62,13 +72,13 @@ impl Map {
     }
 
     /// How many hits the bar has, and its length.
-    pub fn read(&self, id: u32, sounds: &mut [u8], steps: &mut [u32]) -> Result<(usize, u32), Kind> {
+    pub fn read(&self, id: u32, (sounds, steps, velocities): &mut Room) -> Result<(usize, u32), Kind> {
         let bar = self.bars.get(&id).ok_or(16u32)?;
-        if bar.hits.len() > sounds.len().min(steps.len()) {
+        if bar.hits.len() > sounds.len().min(steps.len()).min(velocities.len()) {
             return Err(13);
         }
-        for ((hit, sound), step) in bar.hits.iter().zip(sounds).zip(steps) {
-            (*sound, *step) = *hit;
+        for (((hit, sound), step), velocity) in bar.hits.iter().zip(sounds).zip(steps).zip(velocities) {
+            (*sound, *step, *velocity) = *hit;
         }
         Ok((bar.hits.len(), bar.length))
     }
@@ -121,7 +131,8 @@ impl Map {
             }
             before = Some(id);
             let (own, behind) = behind.split_at(2 * count as usize);
-            let hits: Option<Vec<Hit>> = own.chunks_exact(2).map(|hit| Some((u8::try_from(hit[0]).ok()?, hit[1]))).collect();
+            let hits: Option<Vec<Hit>> =
+                own.chunks_exact(2).map(|hit| Some((hit[0] as u8, hit[1], u8::try_from(hit[0] >> 8).ok()?))).collect();
             let hits = hits.filter(|hits| hits_fine(length, hits).is_ok())?;
             map.hits += hits.len();
             map.bars.insert(id, Bar { length, hits });
@@ -137,8 +148,8 @@ impl Map {
         for (id, bar) in &self.bars {
             words[at..at + 3].copy_from_slice(&[*id, bar.length, bar.hits.len() as u32]);
             at += 3;
-            for (sound, step) in &bar.hits {
-                (words[at], words[at + 1]) = (*sound as u32, *step);
+            for (sound, step, velocity) in &bar.hits {
+                (words[at], words[at + 1]) = (*sound as u32 | (*velocity as u32) << 8, *step);
                 at += 2;
             }
         }

@@ -97,11 +97,11 @@ equals the Rust's byte for byte, opens, and the first, middle and last of its li
 
 pub const MIDI: &str = "\
 `midi_bars` has no original. Beside it runs a plain reader in Rust (`bench/src/plain.rs`): one pass over the bytes with the same rules, a
-vector of steps for each note, and the eight lists from them; what it allocates it also drops. The library fills lent buffers. The lists
-of both were compared first; a ratio is the library's time over the plain reader's. The files with hits of 2 and of all 128 notes have the
-same ticks, postings and positions and differ in the notes alone: two at a time, in the second other ones in each bar. The drummer's file
-is 48 bars of kick, snare and hats, with a release for each stroke; the last is texts and exclusive events of up to 63 bytes, with a hit
-for every sixteen.
+vector of steps and velocities for each note, of equal hits the loudest, and the nine lists from them; what it allocates it also drops. The
+library fills lent buffers. The lists of both were compared first; a ratio is the library's time over the plain reader's. The files with
+hits of 2 and of all 128 notes have the same ticks, postings and positions and differ in the notes alone: two at a time, in the second
+other ones in each bar. The drummer's file is 48 bars of kick, snare and hats, with a release for each stroke; the last is texts and
+exclusive events of up to 63 bytes, with a hit for every sixteen.
 ";
 
 pub const SHEETS: &str = "\
@@ -149,11 +149,12 @@ No quadratic case: from one number of bars to ten times as many, the nanoseconds
 
 pub const PAD: &str = "\
 The calls on a pad have no original. Beside them runs a plain map in Rust (`bench/src/plain_pad.rs`): a `BTreeMap` from id to bar, with a
-vector of hits each and the same rules for saving. It is kept from call to call and trusts itself. The library is given 17,154 words that
-may be anything, and every call but the counter first looks at all that they hold, for 20: that is the last row of each size, a save whose
-id is held, and most of the others. So the map also runs as a program would use it that has to keep its pad in such words: read from them
-and checked in each call, and put back by a call that changes it. Bars of 64 steps with hits of any sounds, ids 3 apart; the first bar is
-the one with most bars behind it to be moved. Replies, words and what was read back were compared first.
+vector of hits each, velocities included, and the same rules for saving. It is kept from call to call and trusts itself. The library is
+given 17,154 words that may be anything, and every call but the counter first looks at all that they hold, for 20: that is the last row of
+each size, a save whose id is held, and most of the others. So the map also runs as a program would use it that has to keep its pad in such
+words: read from them and checked in each call, and put back by a call that changes it. Bars of 64 steps with hits of any sounds and
+velocities, ids 3 apart; the first bar is the one with most bars behind it to be moved. Replies, words and what was read back were compared
+first.
 ";
 
 pub const PAD_COUNTER: &str = "\

@@ -38,8 +38,8 @@ const GROOVE: [&str; 5] = [
 
 /// Which of equal hits is kept, and where its velocity stands.
 const LOUD: [&str; 4] = [
-    // one note on one step, velocities 7, 100, 99; on the next step 127, 1; on the next 1, 2, 3; on the next 5, 5
-    "file 4D546864 00000006 0000 0001 0004 4D54726B 00000023 00902407 002464 002463 01247F 002401 012401 002402 002403 012405 002405 00FF2F00
+    // one note on one step, velocities 7, 100, 99; on the next step 127, 1; on the next 1, 3; on the next 5, 5
+    "file 4D546864 00000006 0000 0001 0004 4D54726B 00000020 00902407 002464 002463 01247F 002401 012401 002403 012405 002405 00FF2F00
      reply 0 0 0 1 1 1 4
      ids 0
      lengths 16

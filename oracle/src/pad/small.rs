@@ -134,8 +134,8 @@ fn slices(pads: &mut Pads) {
     }
 }
 
-/// Sequences of 4 calls, lists of up to 3 hits, three lists of up to 2 elements, the first 9 words; with the whole space 5, 4, 3 and 12, and
-/// every word of a hit.
+/// Sequences of 4 calls, lists of up to 3 hits, three lists of up to 2 elements, the first 9 words; with the whole space 5, 4, 3 and 12,
+/// and every word of a hit.
 pub fn all(pads: &mut Pads, whole: bool) {
     let calls = alphabet();
     sequences(pads, &Pad::empty(), &calls, if whole { 5 } else { 4 });

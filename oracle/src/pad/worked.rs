@@ -1,9 +1,10 @@
 //! Examples worked out by hand from document 02. A line is a call, then its reply: `accepted FIRST SECOND` or `refused KIND WHICH INDEX`.
-//! A hit is sound:step@velocity, without a velocity 64. `lists` is a save of sounds, steps and velocities as they are. `read ID` has the
-//! places of sounds, of steps and of velocities, and behind the colon what they then hold. `write` has the names that are not empty, by sound number, and the places of out; `bytes` is a part of what
-//! was written last, from an offset on, and `phrase` the bars that a phrase finds in it. `run N` repeats a call with @ counting from 0, @2
-//! by twos. `grid N L` is N hits: sound 0 on steps 0 to L - 1, then sound 1, and so on. `hits` asks the counter; `word I W` makes W the
-//! word at I, and `words N` cuts or lengthens the pad to N words. Every example begins with a pad of zeros.
+//! A hit is sound:step@velocity, without @ of velocity 64. `lists` is a save of sounds, steps and velocities as they are. `read ID` has the
+//! places of sounds, of steps and of velocities, and behind the colon what they then hold. `write` has the names that are not empty, by
+//! sound number, and the places of out; `bytes` is a part of what was written last, from an offset on, and `phrase` the bars that a phrase
+//! finds in it. `run N` repeats a call with @ counting from 0, @2 by twos. `grid N L` is N hits: sound 0 on steps 0 to L - 1, then sound 1,
+//! and so on. `hits` asks the counter; `word I W` makes W the word at I, and `words N` cuts or lengthens the pad to N words. Every example
+//! begins with a pad of zeros.
 
 use super::call::{Call, Lists};
 use super::compare::{Pad, Pads};
