@@ -88,13 +88,18 @@ fn all_faults(pads: &mut Pads) {
 
 /// Lists of 16,777,216 hits and of one more, alone and with everything else that can be wrong.
 fn long_lists(pads: &mut Pads) {
-    let most = grid(LARGEST, 131_072);
+    let mut most = grid(LARGEST, 131_072);
     let held = bars(1..3, 1);
     let mut broken = holding(&held).words;
     broken[0] = 1;
     let mut pad = holding(&held);
     expect(pads, &mut pad, &Call::save(9, 131_072, &most), refused(19, 0, 0), "16,777,216 hits");
     expect(pads, &mut pad, &Call::save(9, 131_071, &most), refused(6, 21, 0), "16,777,216 hits, the last steps too far");
+    for (place, velocity) in [(LARGEST - 1, 0), (65_536, 128)] {
+        most[place].2 = velocity;
+        expect(pads, &mut pad, &Call::save(9, 131_072, &most), refused(22, 0, 0), "16,777,216 hits, one velocity out of range");
+        most[place].2 = 1;
+    }
     drop(most);
     let more = Lists { sounds: vec![200; LARGEST + 1], steps: vec![7; LARGEST + 1], velocities: vec![0; LARGEST + 1] };
     let save = |id: u32, lengths: [usize; 3]| {
@@ -151,7 +156,13 @@ fn edges(pads: &mut Pads) {
 fn limits(pads: &mut Pads) {
     let (fits, full) = (Reply::accepted, refused(19, 0, 0));
     let mut pad = Pad::empty();
-    expect(pads, &mut pad, &Call::save(1, 100, &grid(HITS + 1, 100)), full, "8,193 hits");
+    let mut more = grid(HITS + 1, 100);
+    expect(pads, &mut pad, &Call::save(1, 100, &more), full, "8,193 hits");
+    for (place, velocity) in [(0, 128), (HITS / 2, 0), (HITS, 0), (HITS, 128)] {
+        let before = std::mem::replace(&mut more[place].2, velocity);
+        expect(pads, &mut pad, &Call::save(1, 100, &more), refused(22, 0, 0), "8,193 hits, one velocity out of range");
+        more[place].2 = before;
+    }
     expect(pads, &mut pad, &Call::save(1, 64, &grid(HITS, 64)), fits(HITS as u64, 0), "8,192 hits");
     expect(pads, &mut pad, &Call::save(0, 1, &[(0, 0, 1)]), full, "one more");
     for id in 2..=BARS as u32 {

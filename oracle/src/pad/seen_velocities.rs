@@ -1,6 +1,6 @@
 //! What the velocities of a call, or of the hits that a pad holds, can have, clause by clause.
 
-use super::model::{place, Hit, Test, LARGEST};
+use super::model::{place, Hit, Test, HITS, LARGEST};
 use super::seen::{Clause, Facts};
 
 fn out_of_range(velocity: u8) -> bool {
@@ -27,6 +27,15 @@ fn odd(f: &Facts, longer: bool) -> bool {
     let others = f.sounds().len();
     let is = if longer { f.velocities().len() > others } else { f.velocities().len() < others };
     f.refused(Test::Lengths) && f.steps().len() == others && is
+}
+
+/// A refusal for a velocity behind a fault of another test, which ends before this place.
+fn behind(f: &Facts, fault: impl Fn(&[Hit]) -> Option<usize>) -> bool {
+    if !f.refused(Test::Velocity) {
+        return false;
+    }
+    let hits = f.given();
+    fault(&hits).is_some_and(|end| hits[..end].iter().all(|hit| !out_of_range(hit.2)))
 }
 
 fn fall_and_rise(hits: &[Hit]) -> bool {
@@ -76,17 +85,18 @@ pub const SAVE: &[Clause] = &[
     ("22 of the first hit alone", |f| alone(f, |_| 0)),
     ("22 of a middle hit alone", |f| alone(f, |n| n / 2)),
     ("22 of the last hit alone", |f| alone(f, |n| n - 1)),
+    ("22 of the last of over 8,192 hits alone", |f| f.new_hits() > HITS && alone(f, |n| n - 1)),
+    ("22 of 16,777,216 hits, one alone", |f| {
+        let out = f.velocities().iter().filter(|velocity| out_of_range(**velocity));
+        f.refused(Test::Velocity) && f.new_hits() == LARGEST && out.count() == 1
+    }),
     ("22 of every hit", |f| f.refused(Test::Velocity) && f.velocities().iter().all(|velocity| out_of_range(*velocity))),
     ("22 of the only hit", |f| f.refused(Test::Velocity) && f.given().len() == 1),
     ("22 behind two hits out of order", |f| {
-        let hits = f.given();
-        let falls = hits.windows(2).position(|pair| place(&pair[0]) >= place(&pair[1]));
-        f.refused(Test::Velocity) && falls.is_some_and(|at| hits[..at + 2].iter().all(|hit| !out_of_range(hit.2)))
+        behind(f, |hits| hits.windows(2).position(|pair| place(&pair[0]) >= place(&pair[1])).map(|at| at + 2))
     }),
     ("22 behind a step not below the length", |f| {
-        let hits = f.given();
-        let far = hits.iter().position(|hit| hit.1 >= f.length());
-        f.refused(Test::Velocity) && far.is_some_and(|at| hits[..=at].iter().all(|hit| !out_of_range(hit.2)))
+        behind(f, |hits| hits.iter().position(|hit| hit.1 >= f.length()).map(|at| at + 1))
     }),
     ("12 of a sound behind a velocity out of range", |f| {
         let high = f.sounds().iter().position(|sound| *sound > 127);
