@@ -38,19 +38,19 @@ const GROOVE: [&str; 5] = [
 
 /// Which of equal hits is kept, and where its velocity stands.
 const LOUD: [&str; 4] = [
-    // one note on one step, velocities 7, 100, 99; on the next step 127, 1; on the next 1, 3; on the next 5, 5
-    "file 4D546864 00000006 0000 0001 0004 4D54726B 00000020 00902407 002464 002463 01247F 002401 012401 002403 012405 002405 00FF2F00
-     reply 0 0 0 1 1 1 4
+    // one note on one step, velocities 7, 100, 99; on the next step 127, 1, 126; on the next 5, 5
+    "file 4D546864 00000006 0000 0001 0004 4D54726B 0000001D 00902407 002464 002463 01247F 002401 00247E 012405 002405 00FF2F00
+     reply 0 0 0 1 1 1 3
      ids 0
      lengths 16
      text n036
      ends 4
      posting_counts 1
      posting_ids 0
-     position_counts 4
-     positions 0 1 2 3
-     velocities 100 127 3 5
-     phrase n036 n036 n036 n036 : 0",
+     position_counts 3
+     positions 0 1 2
+     velocities 100 127 5
+     phrase n036 n036 n036 : 0",
     // four ticks to a step: ticks 0, 1 and 3 of step 0 on channels 0, 9 and 9, loudest first; ticks 4 and 7 of step 1, loudest last; tick 8
     "file 4D546864 00000006 0000 0001 0010 4D54726B 0000001D 00902409 01992408 022407 012401 00802440 0390247F 012402 00FF2F00
      reply 0 0 0 1 1 1 3
