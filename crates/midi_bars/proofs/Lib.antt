@@ -1,7 +1,9 @@
 -- Lowest first.
 pub mod Ranges
+pub mod Nested
 pub mod Named
 pub mod Counted
 pub mod Struck
 pub mod Fine
 pub mod Words
+pub mod Loud

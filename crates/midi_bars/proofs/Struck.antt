@@ -35,14 +35,14 @@ module _ (g : Grid) where
   in-bar-true : (n b : ℕ) (h : Hit) → h .note ≡ n → bar-of g h ≡ b → in-bar g n b h ≡ true
   in-bar-true n b h e f = rw (eq-eqb (h .note) n e, eq-eqb (bar-of g h) b f)
 
-  on-true : (n b p : ℕ) (h : Hit) → h .note ≡ n → bar-of g h ≡ b → position-of g h ≡ p → on-position g n b p h ≡ true
+  pub on-true : (n b p : ℕ) (h : Hit) → h .note ≡ n → bar-of g h ≡ b → position-of g h ≡ p → on-position g n b p h ≡ true
   on-true n b p h e f k = rw (eq-eqb (h .note) n e, eq-eqb (bar-of g h) b f, eq-eqb (position-of g h) p k)
 
   pub bar-gives : (n b : ℕ) (h : Hit) → in-bar g n b h ≡ true → (h .note ≡ n) × (bar-of g h ≡ b)
   bar-gives n b h t =
       (eqb-true _ _ (and-left (of-sound n h) (eqb (bar-of g h) b) t), eqb-true _ _ (and-right (of-sound n h) (eqb (bar-of g h) b) t))
 
-  on-gives : (n b p : ℕ) (h : Hit) → on-position g n b p h ≡ true → (h .note ≡ n) × (bar-of g h ≡ b) × (position-of g h ≡ p)
+  pub on-gives : (n b p : ℕ) (h : Hit) → on-position g n b p h ≡ true → (h .note ≡ n) × (bar-of g h ≡ b) × (position-of g h ≡ p)
   on-gives n b p h t =
       let (e, f) = bar-gives n b h (and-left (in-bar g n b h) (eqb (position-of g h) p) t) in
       (e, f, eqb-true _ _ (and-right (in-bar g n b h) (eqb (position-of g h) p) t))

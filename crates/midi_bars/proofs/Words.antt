@@ -58,7 +58,7 @@ ticks-are quarter file ticks f =
     let (_, f₃) = check-gives (division-fits quarter (division file)) (midi-file 0) _ f₂ in
     sym (ok-same f₃)
 
-grid-is : (steps quarter : ℕ) (file : List ℕ) (g : Grid) → chunks steps quarter file ≡ ok g → g ≡ grid (division file / quarter) steps
+pub grid-is : (steps quarter : ℕ) (file : List ℕ) (g : Grid) → chunks steps quarter file ≡ ok g → g ≡ grid (division file / quarter) steps
 unfolding chunks
 grid-is steps quarter file g f =
     let (_, f₁) = check-gives (leb (length file) 16777216) too-large _ f in
@@ -171,7 +171,7 @@ module _ (steps quarter : ℕ) (file : List ℕ) (g : Grid) (hs : List Hit) (c :
       subst (λ (m : Lists). Holds-file steps quarter file hs m) is
       (rw so (held steps quarter file hs (rw so at (read-fine steps quarter file g hs one c h))))
 
-  their-hits : Within-rules steps quarter file hs
+  pub their-hits : Within-rules steps quarter file hs
   their-hits = files-exactly steps quarter file hs .0 (rw (c, h))
 
 pub file-held : File-held

@@ -9,6 +9,7 @@ use Rattle.calls.specs.Given.{Lists, lists}
 use Rattle.calls.specs.Replies.{fronted}
 use Rattle.midi_read.specs.Files.{chunks, hits}
 use Rattle.midi_bars.specs.Bars.{lists-of}
+use Rattle.midi_bars.specs.Loudness.{All-lists, beside, all-of}
 
 -- whatever the room: 12, the header, the heading, then the events in file order
 unfoldable pub import-file : (steps quarter : ℕ) (file : List ℕ) → Result Lists
@@ -29,27 +30,45 @@ roomy-all needed room = do
   _ ← roomy 7 (length (needed .position-counts)) (length (room .position-counts))
   roomy 8 (length (needed .positions)) (length (room .positions))
 
--- the call: into eight lent buffers
-unfoldable pub import-into : (steps quarter : ℕ) (file : List ℕ) (room : Lists) → Result Lists
+-- ---- with the velocities
+
+unfoldable pub import-all : (steps quarter : ℕ) (file : List ℕ) → Result All-lists
+import-all steps quarter file = do
+  g ← chunks steps quarter file
+  hs ← hits g file
+  ok (all-of g hs)
+
+-- the ninth buffer after the eight
+unfoldable pub roomy-beside : (needed room : All-lists) → Result (Unit {0})
+roomy-beside needed room = do
+  _ ← roomy-all (needed .lists) (room .lists)
+  roomy 9 (length (needed .velocities)) (length (room .velocities))
+
+-- the call: into nine lent buffers
+unfoldable pub import-into : (steps quarter : ℕ) (file : List ℕ) (room : All-lists) → Result All-lists
 import-into steps quarter file room = do
-  all ← import-file steps quarter file
-  _ ← roomy-all all room
+  all ← import-all steps quarter file
+  _ ← roomy-beside all room
   ok all
 
 -- the reply: how many documents (bars), terms (sounds), postings and positions
-abbrev pub import-answer : Result Lists → Imported
-import-answer (ok l) = imported.Totals (record {
-  documents = length (l .ids);
-  terms = length (l .ends);
-  postings = length (l .posting-ids);
-  positions = length (l .positions);
+abbrev pub import-answer : Result All-lists → Imported
+import-answer (ok a) = imported.Totals (record {
+  documents = length (a .lists .ids);
+  terms = length (a .lists .ends);
+  postings = length (a .lists .posting-ids);
+  positions = length (a .lists .positions);
 })
 import-answer (refuse x) = imported.Refused x
 
--- the eight lent buffers afterwards: the lists at their fronts, and the places behind as before; a refusal leaves all eight
-abbrev pub import-left : Result Lists → Lists → Lists
-import-left (ok l) b =
+-- lists at the fronts of lent buffers, and the places behind as before
+abbrev pub fronted-lists : Lists → Lists → Lists
+fronted-lists l b =
     lists (fronted (l .ids) (b .ids)) (fronted (l .lengths) (b .lengths)) (fronted (l .text) (b .text)) (fronted (l .ends) (b .ends))
     (fronted (l .posting-counts) (b .posting-counts)) (fronted (l .posting-ids) (b .posting-ids))
     (fronted (l .position-counts) (b .position-counts)) (fronted (l .positions) (b .positions))
+
+-- the nine lent buffers afterwards; a refusal leaves all nine
+abbrev pub import-left : Result All-lists → All-lists → All-lists
+import-left (ok a) b = beside (fronted-lists (a .lists) (b .lists)) (fronted (a .velocities) (b .velocities))
 import-left (refuse x) b = b

@@ -11,10 +11,11 @@ use lib.Dec.{eqb}
 use borrow.Author.Tests.{eqb-true, eqb-false}
 use Rattle.common.proofs.Loops.{lt-or-ge}
 use Rattle.common.specs.Elements.{_∈_, Rising}
-use Rattle.common.proofs.Elements.{map-from, rising-tail, rising-above}
-use Rattle.common.proofs.Membership.{append-gives, joined-gives, joined-from, map-gives}
+use Rattle.common.proofs.Elements.{rising-tail, rising-above}
+use Rattle.common.proofs.Membership.{append-gives}
 use Rattle.common.proofs.Rising.{rising-cons, rising-unique}
 use Rattle.common.specs.Lists.{joined}
+use Rattle.midi_bars.proofs.Nested.{parts-give}
 
 -- one after another, without those that equal the last one; `last` is that one plus one, 0 where there is none
 abbrev pub runs : (last : ℕ) → List ℕ → List ℕ
@@ -100,16 +101,6 @@ pub shifted-rise : (k : ℕ) (xs : List ℕ) → Rising xs → Rising (map (λ x
 shifted-rise k [] r = tt
 shifted-rise k (x ∷ []) r = tt
 shifted-rise k (x ∷ (y ∷ ys)) (up, r) = (omega arith, shifted-rise k (y ∷ ys) r)
-
-module _ {A B : Type 0} (f : A → List B) where
-  pub parts-give : (zs : List A) (y : B) → y ∈ joined (map f zs) → (a : A) × (a ∈ zs) × (y ∈ f a)
-  parts-give zs y m =
-      let (ys, k, j) = joined-gives (map f zs) y m in
-      let (a, i, e) = map-gives f zs ys k in
-      (a, i, rw e at j)
-
-  pub parts-from : (zs : List A) (a : A) (y : B) → a ∈ zs → y ∈ f a → y ∈ joined (map f zs)
-  parts-from zs a y m k = joined-from (map f zs) (f a) y (map-from f zs a m) k
 
 -- each part within its own multiple
 pub parts-rise : (s : ℕ) → 1 ≤ s → (f : ℕ → List ℕ) → ((b : ℕ) → Rising (f b)) → ((b y : ℕ) → y ∈ f b → y / s ≡ b)

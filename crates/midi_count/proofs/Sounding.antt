@@ -27,18 +27,13 @@ use Rattle.midi_count.specs.Promise.{zeros, tallies}
 use Rattle.midi_count.specs.Claims.{Counting-right}
 use Rattle.calls.proofs.Unflat.{total-joined}
 use Rattle.midi_bars.proofs.Struck.{position-below, positions-rise, bars-rise, bar-struck, position-gives, position-from, bar-from}
+use Rattle.midi_bars.proofs.Nested.{parts-give, parts-from}
 use Rattle.midi_bars.proofs.Words.{parted, step-is}
+use Rattle.midi_bars.proofs.Loud.{greater-sum}
 use Rattle.midi_count.proofs.Tallying.{zeros-at}
-use Rattle.midi_count.proofs.Runs.{runs, Grows, runs-are, div-up, shifted-rise, parts-give, parts-from, parts-rise}
+use Rattle.midi_count.proofs.Runs.{runs, Grows, runs-are, div-up, shifted-rise, parts-rise}
 
 -- ---- the bars in all
-
-pub greater-sum : (a b : ℕ) → greater a b ≡ a + (b - a)
-greater-sum a b = step (ltb a b) refl
-  where
-    step : (x : Bool) → ltb a b ≡ x → cond x b a ≡ a + (b - a)
-    step true e = omega (arith, ltb-true a b e)
-    step false e = omega (arith, ltb-false a b e)
 
 greater-one : (a b c : ℕ) → greater (greater a (b + 1)) c ≡ greater a (greater (suc b) c)
 greater-one a b c =

@@ -2,7 +2,7 @@
 -- Assumes nothing.
 use mathlib.Core.Path.{_≡_, refl, sym, ap, ap₂, subst, _∙_}
 use mathlib.Core.Bool.{Bool, true, false, cond}
-use mathlib.Core.List.{List, [], _∷_, _++_, map, append-assoc, map-append, map-map}
+use mathlib.Core.List.{List, [], _∷_, _++_, map, map-append, map-map}
 use Prim.Native.Nat.{ℕ, _+_, _*_, _/_, _%_, _≤_, _<_}
 use native.Mathlib.Omega.{arith}
 use lib.Dec.{eqb}
@@ -30,9 +30,10 @@ use Rattle.midi_count.specs.Claims.{counted, Counts-right}
 use Rattle.midi_fill.specs.Stores.{Buffers, buffers, put}
 use Rattle.midi_fill.specs.Claims.{Filling-right}
 use Rattle.calls.proofs.Unflat.{total-joined}
+use Rattle.midi_bars.proofs.Nested.{map-joined, joined-twice, parts-give, parts-from}
 use Rattle.midi_bars.proofs.Struck.{positions-rise, bars-rise}
 use Rattle.midi_count.proofs.Tallying.{zeros-at}
-use Rattle.midi_count.proofs.Runs.{runs, Grows, shifted-rise, parts-give, parts-from, parts-rise}
+use Rattle.midi_count.proofs.Runs.{runs, Grows, shifted-rise, parts-rise}
 use Rattle.midi_count.proofs.Sounding.{bar-last, zeros-length, counting-right}
 use Rattle.midi_count.proofs.Sounding.{bars-run, steps-run, steps-length, steps-grow, steps-of, step-on, step-in}
 use Rattle.midi_fill.proofs.Scattered.{tables, Long}
@@ -41,14 +42,6 @@ use Rattle.midi_fill.proofs.Valued.{by-bar, by-step, counts-kind, steps
 use Rattle.midi_fill.proofs.Joining.{total-of, filled}
 
 -- ---- lists of lists
-
-map-joined : {A B C : Type 0} (f : B → C) (k : A → List B) (xs : List A) → map f (joined (map k xs)) ≡ joined (map (λ x. map f (k x)) xs)
-map-joined f k [] = refl
-map-joined f k (x ∷ xs) = map-append f (k x) (joined (map k xs)) ∙ ap (λ l. map f (k x) ++ l) (map-joined f k xs)
-
-joined-append : {A : Type 0} (xs ys : List (List A)) → joined (xs ++ ys) ≡ joined xs ++ joined ys
-joined-append [] ys = refl
-joined-append (x ∷ xs) ys = ap (λ l. x ++ l) (joined-append xs ys) ∙ sym (append-assoc x (joined xs) (joined ys))
 
 joined-kept : {A B : Type 0} (t : A → Bool) (f : A → List B) → ((x : A) → t x ≡ false → f x ≡ []) → (xs : List A)
     → joined (map f (kept t xs)) ≡ joined (map f xs)
@@ -93,13 +86,6 @@ module _ (g : Grid) (hs : List Hit) where
       map-append f (map (posting-of g hs n) (bars-of g hs n)) (joined (map (λ (t : Term). t .postings) (map (term-of g hs) ns)))
       ∙ ap₂ _++_ (map-map f (posting-of g hs n) (bars-of g hs n)) (postings-by f ns)
 
-  joined-twice : {A : Type 0} (f : ℕ → ℕ → List A) (ns : List ℕ)
-      → joined (joined (map (λ n. map (f n) (bars-of g hs n)) ns)) ≡ joined (map (λ n. joined (map (f n) (bars-of g hs n))) ns)
-  joined-twice f [] = refl
-  joined-twice f (n ∷ ns) =
-      joined-append (map (f n) (bars-of g hs n)) (joined (map (λ n. map (f n) (bars-of g hs n)) ns))
-      ∙ ap (λ l. joined (map (f n) (bars-of g hs n)) ++ l) (joined-twice f ns)
-
   pub ids-by : lists-of g hs .posting-ids ≡ joined (map (λ n. map (λ b. b) (bars-of g hs n)) (rising-from 0 128))
   unfolding lists-of laid-flat given-of
   ids-by = postings-by (λ p. p .doc) (sounds-of g hs) ∙ by-sounds (λ n bs. map (λ b. b) bs) (λ n. refl)
@@ -115,7 +101,7 @@ module _ (g : Grid) (hs : List Hit) where
       ≡ joined (map (λ n. joined (map (positions-of g hs n) (bars-of g hs n))) (rising-from 0 128))
   unfolding lists-of laid-flat given-of
   positions-by =
-      ap joined (postings-by (λ p. p .positions) (sounds-of g hs)) ∙ joined-twice (positions-of g hs) (sounds-of g hs)
+      ap joined (postings-by (λ p. p .positions) (sounds-of g hs)) ∙ joined-twice (λ n. map (positions-of g hs n) (bars-of g hs n)) (sounds-of g hs)
       ∙ by-sounds (λ n bs. joined (map (positions-of g hs n) bs)) (λ n. refl)
 
 -- ---- one sound
