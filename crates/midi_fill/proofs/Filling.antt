@@ -1,11 +1,11 @@
 -- The filling pass a turn at a time. What holds before each event (Standing): what is left to count from here comes to the total that was
 -- counted before, so that a sound's count so far, with the new one, is at most its total, and the hit's place lies in the sound's part.
 -- Assumes nothing.
-use mathlib.Core.Path.{_≡_, refl, sym, ap, subst, _∙_}
+use mathlib.Core.Path.{_≡_, refl, sym, subst, _∙_}
 use mathlib.Core.Bool.{Bool, true, false}
-use mathlib.Core.List.{List, [], _∷_}
+use mathlib.Core.List.{List}
 use mathlib.Core.Logic.{_⊎_, inl, inr}
-use Prim.Native.Nat.{ℕ, zero, suc, _+_, _≤_, _<_}
+use Prim.Native.Nat.{ℕ, _+_, _≤_, _<_}
 use native.Mathlib.Omega.{arith}
 use lib.Dec.{eqb}
 use lib.ListN.{length, getD, set, length-set}
@@ -13,13 +13,12 @@ use lib.Seq.{getD-set-same, getD-set-other}
 use borrow.Author.Tests.{eqb-true, eqb-false, eq-eqb, ne-eqb}
 use Rattle.segment.specs.declared.refusal.Refusal.{Refusal}
 use Rattle.segment.specs.Results.{Result, ok}
-use Rattle.segment.proofs.Binds.{bind-gives, ok-same}
 use Rattle.midi_read.specs.declared.track.Hit.{Hit}
 use Rattle.midi_read.specs.declared.track.Reader.{Reader}
 use Rattle.midi_read.specs.declared.track.Stepped.the-variants.{Sounds, Silent, Ends, Refused}
-use Rattle.midi_read.specs.Files.{Grid, grid, step-of, bar-of, read-event, hits-from, first-event}
+use Rattle.midi_read.specs.Files.{Grid, grid, step-of, bar-of, read-event, first-event}
 use Rattle.midi_read.specs.Promise.{event-answer, Within}
-use Rattle.midi_read.specs.Walks.{over, walk}
+use Rattle.midi_read.specs.Walks.{walk}
 use Rattle.midi_read.proofs.Walks.{past-hit, past-silent, walk-hit, walk-far, walk-silent, walk-end, walk-open, walk-refused}
 use Rattle.midi_bars.specs.Bars.{greater}
 use Rattle.midi_count.specs.Tallies.{Tallies, fresh, opens, raised, tally}
@@ -27,48 +26,7 @@ use Rattle.midi_count.specs.Promise.{tallies, Low}
 use Rattle.midi_fill.specs.Stores.{in-last, Buffers, put}
 use Rattle.midi_fill.specs.Promise.{Puttable, Fillable, Filled-so}
 use Rattle.midi_count.proofs.Tallying.{set-low, raised-low, fresh-le, opens-le, up-to, near-step}
-use Rattle.midi_fill.proofs.Storing.{in-last-le}
-
--- ---- counts never fall
-
-raised-up : (l : List ℕ) (i by n : ℕ) → getD l n 0 ≤ getD (raised l i by) n 0
-raised-up [] i by n = omega arith
-raised-up (x ∷ l) zero by zero = omega arith
-raised-up (x ∷ l) zero by (suc n) = omega arith
-raised-up (x ∷ l) (suc i) by zero = omega arith
-raised-up (x ∷ l) (suc i) by (suc n) = raised-up l i by n
-
-module _ (g : Grid) where
-  postings-up : (t : Tallies) (hs : List Hit) (n : ℕ) → getD (t .postings) n 0 ≤ getD (over (tally g) t hs .postings) n 0
-  postings-up t [] n = omega arith
-  postings-up t (h ∷ hs) n =
-      omega (
-        arith,
-        raised-up (t .postings) (h .note) (opens (getD (t .last) (h .note) 0) (step-of g h) (g .steps)) n,
-        postings-up (tally g t h) hs n,
-      )
-
-  positions-up : (t : Tallies) (hs : List Hit) (n : ℕ) → getD (t .positions) n 0 ≤ getD (over (tally g) t hs .positions) n 0
-  positions-up t [] n = omega arith
-  positions-up t (h ∷ hs) n =
-      omega (
-        arith,
-        raised-up (t .positions) (h .note) (fresh (getD (t .last) (h .note) 0) (step-of g h)) n,
-        positions-up (tally g t h) hs n,
-      )
-
-  module _ (file : List ℕ) (from : Reader) (t total : Tallies) (e : walk (tally g) g file from t ≡ ok total) where
-    postings-within : (n : ℕ) → getD (t .postings) n 0 ≤ getD (total .postings) n 0
-    postings-within n =
-        let (hs, _, f) = bind-gives (hits-from (length file) g file from) (λ hs. ok (over (tally g) t hs)) e in
-        let is : over (tally g) t hs ≡ total = ok-same f in
-        omega (arith, postings-up t hs n, ap (λ (u : Tallies). getD (u .postings) n 0) is)
-
-    positions-within : (n : ℕ) → getD (t .positions) n 0 ≤ getD (total .positions) n 0
-    positions-within n =
-        let (hs, _, f) = bind-gives (hits-from (length file) g file from) (λ hs. ok (over (tally g) t hs)) e in
-        let is : over (tally g) t hs ≡ total = ok-same f in
-        omega (arith, positions-up t hs n, ap (λ (u : Tallies). getD (u .positions) n 0) is)
+use Rattle.midi_fill.proofs.Storing.{in-last-le, postings-within, positions-within}
 
 -- ---- what holds before each event
 
@@ -91,9 +49,11 @@ pub record Standing (file : List ℕ) (g : Grid) (starts marks : List ℕ) (x₀
   pub ids-fit : (n : ℕ) → n < 128 → getD starts n 0 + getD (total .postings) n 0 ≤ length (x .ids)
   pub counts-fit : (n : ℕ) → n < 128 → getD starts n 0 + getD (total .postings) n 0 ≤ length (x .counts)
   pub steps-fit : (n : ℕ) → n < 128 → getD marks n 0 + getD (total .positions) n 0 ≤ length (x .steps)
+  pub velocities-fit : (n : ℕ) → n < 128 → getD marks n 0 + getD (total .positions) n 0 ≤ length (x .velocities)
   pub same-ids : length (x .ids) ≡ length (x₀ .ids)
   pub same-counts : length (x .counts) ≡ length (x₀ .counts)
   pub same-steps : length (x .steps) ≡ length (x₀ .steps)
+  pub same-velocities : length (x .velocities) ≡ length (x₀ .velocities)
   pub rest : walk (put g starts marks) g file from x ≡ walk (put g starts marks) g file first-event x₀
 
 pub standing-start : (file : List ℕ) (ticks steps : ℕ) (starts marks : List ℕ) (x : Buffers) → Fillable file ticks steps starts marks x
@@ -114,9 +74,11 @@ standing-start file ticks steps starts marks x f = record {
   ids-fit = f .ids-fit;
   counts-fit = f .counts-fit;
   steps-fit = f .steps-fit;
+  velocities-fit = f .velocities-fit;
   same-ids = refl;
   same-counts = refl;
   same-steps = refl;
+  same-velocities = refl;
   rest = refl;
 }
 
@@ -141,9 +103,11 @@ module _ (file : List ℕ) (g : Grid) (starts marks : List ℕ) (x₀ x : Buffer
         ids-fit = w .ids-fit;
         counts-fit = w .counts-fit;
         steps-fit = w .steps-fit;
+        velocities-fit = w .velocities-fit;
         same-ids = w .same-ids;
         same-counts = w .same-counts;
         same-steps = w .same-steps;
+        same-velocities = w .same-velocities;
         rest = walk-silent (put g starts marks) g file from _ (w .rest) e;
       }
 
@@ -229,6 +193,7 @@ module _ (file : List ℕ) (g : Grid) (starts marks : List ℕ) (x₀ x : Buffer
           ids-fit = omega (arith, posting-in, w .ids-fit n known);
           counts-fit = omega (arith, posting-in, w .counts-fit n known);
           steps-fit = omega (arith, position-in, w .steps-fit n known);
+          velocities-fit = omega (arith, position-in, w .velocities-fit n known);
         }
 
     abbrev Begun-on : ℕ → Type 0
@@ -284,9 +249,11 @@ module _ (file : List ℕ) (g : Grid) (starts marks : List ℕ) (x₀ x : Buffer
           ids-fit = λ k l. rw length-set (w .ids-fit k l);
           counts-fit = λ k l. rw length-set (w .counts-fit k l);
           steps-fit = λ k l. rw length-set (w .steps-fit k l);
+          velocities-fit = λ k l. rw length-set (w .velocities-fit k l);
           same-ids = length-set (x .ids) _ _ ∙ w .same-ids;
           same-counts = length-set (x .counts) _ _ ∙ w .same-counts;
           same-steps = length-set (x .steps) _ _ ∙ w .same-steps;
+          same-velocities = length-set (x .velocities) _ _ ∙ w .same-velocities;
           rest = walk-hit (put g starts marks) g file from x (w .rest) e near;
         }
 

@@ -1,4 +1,4 @@
--- The filling pass comes to the lists: posting ids, position counts and positions.
+-- The filling pass comes to the lists: posting ids, position counts, positions and velocities.
 -- Assumes nothing.
 use mathlib.Core.Path.{_≡_, refl, sym, ap, ap₂, subst, _∙_}
 use mathlib.Core.Bool.{Bool, true, false, cond}
@@ -23,6 +23,7 @@ use Rattle.midi_read.specs.Claims.{Never-fall}
 use Rattle.midi_read.specs.Walks.{over}
 use Rattle.midi_bars.specs.Bars.{rising-from, of-sound, in-bar, bar-count}
 use Rattle.midi_bars.specs.Bars.{sounds-of, bars-of, positions-of, posting-of, term-of, given-of, lists-of}
+use Rattle.midi_bars.specs.Loudness.{loudest, velocities-of}
 use Rattle.midi_bars.specs.Claims.{Hits-fine}
 use Rattle.midi_count.specs.Tallies.{Tallies, tally, starts-from}
 use Rattle.midi_count.specs.Promise.{zeros, tallies}
@@ -32,13 +33,15 @@ use Rattle.midi_fill.specs.Claims.{Filling-right}
 use Rattle.calls.proofs.Unflat.{total-joined}
 use Rattle.midi_bars.proofs.Nested.{map-joined, joined-twice, parts-give, parts-from}
 use Rattle.midi_bars.proofs.Struck.{positions-rise, bars-rise}
+use Rattle.midi_bars.proofs.Loud.{velocities-many}
 use Rattle.midi_count.proofs.Tallying.{zeros-at}
 use Rattle.midi_count.proofs.Runs.{runs, Grows, shifted-rise, parts-rise}
 use Rattle.midi_count.proofs.Sounding.{bar-last, zeros-length, counting-right}
 use Rattle.midi_count.proofs.Sounding.{bars-run, steps-run, steps-length, steps-grow, steps-of, step-on, step-in}
 use Rattle.midi_fill.proofs.Scattered.{tables, Long}
 use Rattle.midi_fill.proofs.Settled.{settled-keyed}
-use Rattle.midi_fill.proofs.Valued.{by-bar, by-step, counts-kind, steps-in, settled-count}
+use Rattle.midi_fill.proofs.Valued.{by-bar, by-step, counts-kind, loud-kind, steps-in, settled-count}
+use Rattle.midi_fill.proofs.Loudest.{loud-on, settled-loud, own-loudest}
 use Rattle.midi_fill.proofs.Joining.{total-of, filled}
 
 -- ---- lists of lists
@@ -104,6 +107,11 @@ module _ (g : Grid) (hs : List Hit) where
       ap joined (postings-by (λ p. p .positions) (sounds-of g hs)) ∙ joined-twice (λ n. map (positions-of g hs n) (bars-of g hs n)) (sounds-of g hs)
       ∙ by-sounds (λ n bs. joined (map (positions-of g hs n) bs)) (λ n. refl)
 
+  velocities-by : velocities-of g hs
+      ≡ joined (map (λ n. joined (map (λ b. map (loudest g hs n b) (positions-of g hs n b)) (bars-of g hs n))) (rising-from 0 128))
+  unfolding velocities-of
+  velocities-by = by-sounds (λ n bs. joined (map (λ b. map (loudest g hs n b) (positions-of g hs n b)) bs)) (λ n. refl)
+
 -- ---- one sound
 
 module _ (g : Grid) (hs : List Hit) (n : ℕ) (some-ticks : 1 ≤ g .ticks) (a-step : 1 ≤ g .steps) (in-order : Never-fall 0 hs) where
@@ -165,9 +173,9 @@ room-of cs f many each =
     sym (total-of cs 0 f (λ i h. let own : i ≡ 0 + i = omega arith in each i (omega arith) ∙ ap (λ (n : ℕ). length (f n)) own)
     ∙ ap (λ (n : ℕ). length (joined (map f (rising-from 0 n)))) many)
 
-module _ (g : Grid) (hs : List Hit) (a b c : List ℕ) (some-ticks : 1 ≤ g .ticks) (fine : Hits-fine g hs) (in-order : Never-fall 0 hs) where
+module _ (g : Grid) (hs : List Hit) (a b c d : List ℕ) (some-ticks : 1 ≤ g .ticks) (fine : Hits-fine g hs) (in-order : Never-fall 0 hs) where
   abbrev at-first : Buffers
-  at-first = buffers (zeros 128) (zeros 128) (zeros 128) (zeros 128) a b c
+  at-first = buffers (zeros 128) (zeros 128) (zeros 128) (zeros 128) (zeros 128) a b c d
 
   abbrev starts : List ℕ
   starts = starts-from 0 (counted g hs .postings)
@@ -181,6 +189,7 @@ module _ (g : Grid) (hs : List Hit) (a b c : List ℕ) (some-ticks : 1 ≤ g .ti
     postings = zeros-length 128;
     positions = zeros-length 128;
     inside = zeros-length 128;
+    loud = zeros-length 128;
   }
 
   low : (h : Hit) → h ∈ hs → h .note < 128
@@ -225,6 +234,9 @@ module _ (g : Grid) (hs : List Hit) (a b c : List ℕ) (some-ticks : 1 ≤ g .ti
       ∙ room-of (counted g hs .positions) (λ n. joined (map (positions-of g hs n) (bars-of g hs n))) many-positions (λ n h.
       right .positions n h ∙ total-joined (positions-of g hs n) (bars-of g hs n))
 
+  velocities-room : length (velocities-of g hs) ≡ total (counted g hs .positions)
+  velocities-room = velocities-many g hs ∙ positions-room
+
   -- what the pass leaves
   abbrev at-last : Buffers
   at-last = over (put g starts marks) at-first hs
@@ -257,9 +269,20 @@ module _ (g : Grid) (hs : List Hit) (a b c : List ℕ) (some-ticks : 1 ≤ g .ti
       ∙ own-positions g hs n some-ticks (fine .a-step) in-order)
       ∙ sym (positions-by g hs)
 
+  loud-right : length d ≡ length (velocities-of g hs) → at-last .velocities ≡ velocities-of g hs
+  loud-right room =
+      filled g (loud-kind g) starts marks (λ x. x .velocities) (counted g hs .positions) (λ x h. refl) at-first hs long low many-positions
+      (room ∙ velocities-room) steps-counted (λ n. zeros-at 128 n) (λ n. zeros-at 128 n)
+      (λ n. joined (map (λ b. map (loudest g hs n b) (positions-of g hs n b)) (bars-of g hs n))) (λ n h.
+      settled-loud g (tables n at-first) (kept (of-sound n) hs) (zeros-at 128 n) (grow n)
+      ∙ ap (map (loud-on g (kept (of-sound n) hs))) (steps-run g hs n some-ticks (fine .a-step) in-order)
+      ∙ own-loudest g hs n (bars-of g hs n))
+      ∙ sym (velocities-by g hs)
+
 pub filling-right : Filling-right
-filling-right g hs a b c some-ticks fine in-order la lb lc = record {
-  posting-ids = ids-right g hs a b c some-ticks fine in-order la;
-  position-counts = counts-right g hs a b c some-ticks fine in-order lb;
-  positions = steps-right g hs a b c some-ticks fine in-order lc;
+filling-right g hs a b c d some-ticks fine in-order la lb lc ld = record {
+  posting-ids = ids-right g hs a b c d some-ticks fine in-order la;
+  position-counts = counts-right g hs a b c d some-ticks fine in-order lb;
+  positions = steps-right g hs a b c d some-ticks fine in-order lc;
+  velocities = loud-right g hs a b c d some-ticks fine in-order ld;
 }

@@ -4,6 +4,7 @@ pub mod Filling
 pub mod Scattered
 pub mod Settled
 pub mod Valued
+pub mod Loudest
 pub mod Joining
 pub mod Laid
 pub mod Passed

@@ -27,6 +27,7 @@ use Rattle.midi_count.specs.Promise.{zeros, tallies}
 use Rattle.midi_count.specs.Claims.{counted}
 use Rattle.midi_fill.specs.Claims.{placed, begun, Passes-right, Fits}
 use Rattle.midi_bars.proofs.Fine.{read-fine, accepted}
+use Rattle.midi_bars.proofs.Loud.{velocities-many}
 use Rattle.midi_count.proofs.Tallying.{zeros-low}
 use Rattle.midi_count.proofs.Sounding.{zeros-length, counting-right}
 use Rattle.midi_fill.proofs.Joining.{starts-fit, starts-low}
@@ -77,8 +78,8 @@ passes-right steps quarter file g hs one f k =
     record {
       counting = walked (tally g) g file (tallies 0 (zeros 128) (zeros 128) (zeros 128)) hs k;
       counts = counting-right g hs ticks fine in-order;
-      filling = λ a b c. walked (placed g hs) g file (begun a b c) hs k;
-      lists = λ a b c. filling-right g hs a b c ticks fine in-order;
+      filling = λ a b c d. walked (placed g hs) g file (begun a b c d) hs k;
+      lists = λ a b c d. filling-right g hs a b c d ticks fine in-order;
     }
 
 -- ---- what `fill` asks
@@ -103,16 +104,16 @@ framed steps quarter file g f =
     }
 
 pub fits : Fits
-fits steps quarter file g hs a b c one few f k la lb lc =
+fits steps quarter file g hs a b c d one few f k la lb lc ld =
     let ticks = some-ticks steps quarter file g f in
     let fine = read-fine steps quarter file g hs one f k in
     let in-order = read-so g file hs k .in-order in
     let w = framed steps quarter file g f in
     let l = accepted g hs fine in
-    let postings : length (lists-of g hs .posting-ids) ≡ total (counted g hs .postings) = postings-room g hs a b c ticks fine in-order in
-    let positions : length (lists-of g hs .positions) ≡ total (counted g hs .positions) = positions-room g hs a b c ticks fine in-order in
-    let many : length (counted g hs .postings) ≡ 128 = many-postings g hs a b c ticks fine in-order in
-    let many′ : length (counted g hs .positions) ≡ 128 = many-positions g hs a b c ticks fine in-order in
+    let postings : length (lists-of g hs .posting-ids) ≡ total (counted g hs .postings) = postings-room g hs a b c d ticks fine in-order in
+    let positions : length (lists-of g hs .positions) ≡ total (counted g hs .positions) = positions-room g hs a b c d ticks fine in-order in
+    let many : length (counted g hs .postings) ≡ 128 = many-postings g hs a b c d ticks fine in-order in
+    let many′ : length (counted g hs .positions) ≡ 128 = many-positions g hs a b c d ticks fine in-order in
     let as-many : length (lists-of g hs .position-counts) ≡ length (lists-of g hs .posting-ids) = l .shape .counts in
     record {
       small = w .small;
@@ -133,4 +134,5 @@ fits steps quarter file g hs a b c one few f k la lb lc =
       ids-fit = λ n h. omega (arith, starts-fit 0 (counted g hs .postings) n (omega arith));
       counts-fit = λ n h. omega (arith, starts-fit 0 (counted g hs .postings) n (omega arith));
       steps-fit = λ n h. omega (arith, starts-fit 0 (counted g hs .positions) n (omega arith));
+      velocities-fit = λ n h. omega (arith, velocities-many g hs, starts-fit 0 (counted g hs .positions) n (omega arith));
     }

@@ -17,7 +17,7 @@ use Rattle.midi_read.specs.Files.{Grid, step-of}
 use Rattle.midi_read.specs.Walks.{over}
 use Rattle.midi_bars.specs.Bars.{of-sound}
 use Rattle.midi_count.specs.Tallies.{fresh, opens}
-use Rattle.midi_fill.specs.Stores.{in-last, Buffers, put, stored}
+use Rattle.midi_fill.specs.Stores.{in-last, loud-last, Buffers, put, stored}
 
 -- ---- one sound's places of the tables
 
@@ -26,9 +26,10 @@ pub record One : Type 0 where
   pub postings : ℕ
   pub positions : ℕ
   pub inside : ℕ
+  pub loud : ℕ
 
-abbrev pub hit-one : (steps step : ℕ) → One → One
-hit-one steps step s =
+abbrev pub hit-one : (steps step velocity : ℕ) → One → One
+hit-one steps step v s =
     let more = opens (s .last) step steps in
     let new = fresh (s .last) step in
     record {
@@ -36,10 +37,11 @@ hit-one steps step s =
       postings = s .postings + more;
       positions = s .positions + new;
       inside = in-last more new (s .inside);
+      loud = loud-last new (s .loud) v;
     }
 
 abbrev pub one : Grid → One → Hit → One
-one g s h = hit-one (g .steps) (step-of g h) s
+one g s h = hit-one (g .steps) (step-of g h) (h .velocity) s
 
 abbrev pub tables : ℕ → Buffers → One
 tables n x = record {
@@ -47,6 +49,7 @@ tables n x = record {
   postings = getD (x .postings) n 0;
   positions = getD (x .positions) n 0;
   inside = getD (x .inside) n 0;
+  loud = getD (x .loud) n 0;
 }
 
 pub record Long (x : Buffers) : Type 0 where
@@ -54,14 +57,16 @@ pub record Long (x : Buffers) : Type 0 where
   pub postings : length (x .postings) ≡ 128
   pub positions : length (x .positions) ≡ 128
   pub inside : length (x .inside) ≡ 128
+  pub loud : length (x .loud) ≡ 128
 
-module _ (starts marks : List ℕ) (i step steps : ℕ) (x : Buffers) where
-  long-on : Long x → Long (stored starts marks i step steps x)
+module _ (starts marks : List ℕ) (i step steps v : ℕ) (x : Buffers) where
+  long-on : Long x → Long (stored starts marks i step steps v x)
   long-on w = record {
     last = length-set (x .last) i _ ∙ w .last;
     postings = length-set (x .postings) i _ ∙ w .postings;
     positions = length-set (x .positions) i _ ∙ w .positions;
     inside = length-set (x .inside) i _ ∙ w .inside;
+    loud = length-set (x .loud) i _ ∙ w .loud;
   }
 
   abbrev more : ℕ
@@ -70,22 +75,24 @@ module _ (starts marks : List ℕ) (i step steps : ℕ) (x : Buffers) where
   abbrev new : ℕ
   new = fresh (getD (x .last) i 0) step
 
-  tables-here : Long x → i < 128 → tables i (stored starts marks i step steps x) ≡ hit-one steps step (tables i x)
+  tables-here : Long x → i < 128 → tables i (stored starts marks i step steps v x) ≡ hit-one steps step v (tables i x)
   tables-here w h =
       rw (
         getD-set-same (x .last) i (step + 1) 0 (omega (arith, w .last)),
         getD-set-same (x .postings) i (getD (x .postings) i 0 + more) 0 (omega (arith, w .postings)),
         getD-set-same (x .positions) i (getD (x .positions) i 0 + new) 0 (omega (arith, w .positions)),
         getD-set-same (x .inside) i (in-last more new (getD (x .inside) i 0)) 0 (omega (arith, w .inside)),
+        getD-set-same (x .loud) i (loud-last new (getD (x .loud) i 0) v) 0 (omega (arith, w .loud)),
       )
 
-  tables-there : (n : ℕ) → (n ≡ i → ⊥) → tables n (stored starts marks i step steps x) ≡ tables n x
+  tables-there : (n : ℕ) → (n ≡ i → ⊥) → tables n (stored starts marks i step steps v x) ≡ tables n x
   tables-there n k =
       rw (
         getD-set-other (x .last) i n (step + 1) 0 k,
         getD-set-other (x .postings) i n (getD (x .postings) i 0 + more) 0 k,
         getD-set-other (x .positions) i n (getD (x .positions) i 0 + new) 0 k,
         getD-set-other (x .inside) i n (in-last more new (getD (x .inside) i 0)) 0 k,
+        getD-set-other (x .loud) i n (loud-last new (getD (x .loud) i 0) v) 0 k,
       )
 
 -- ---- parts
@@ -178,7 +185,7 @@ module _ (g : Grid) (kind : Kind g) where
       here-is : (x : Buffers) (h : Hit) (n : ℕ) → Long x → n < 128 → h .note ≡ n → tables n (put g starts marks x h) ≡ one g (tables n x) h
       here-is x h n w l e =
           subst (λ (m : ℕ). m < 128 → tables m (put g starts marks x h) ≡ one g (tables m x) h) e
-          (λ l. tables-here starts marks (h .note) (step-of g h) (g .steps) x w l) l
+          (λ l. tables-here starts marks (h .note) (step-of g h) (g .steps) (h .velocity) x w l) l
 
       inside-on : (x : Buffers) (h : Hit) (hs : List Hit) (m : ℕ) → Long x → m < 128
           → Inside (c m) (tables m x) (kept (of-sound m) (h ∷ hs)) → Inside (c m) (tables m (put g starts marks x h)) (kept (of-sound m) hs)
@@ -190,7 +197,7 @@ module _ (g : Grid) (kind : Kind g) where
               ((subst (λ (l : List Hit). Inside (c m) (tables m x) l) (kept-yes (of-sound m) h hs e) i) .2)
           step false e =
               subst (λ (s : One). Inside (c m) s (kept (of-sound m) hs))
-              (sym (tables-there starts marks (h .note) (step-of g h) (g .steps) x m (λ f. eqb-false _ _ e (sym f))))
+              (sym (tables-there starts marks (h .note) (step-of g h) (g .steps) (h .velocity) x m (λ f. eqb-false _ _ e (sym f))))
               (subst (λ (l : List Hit). Inside (c m) (tables m x) l) (kept-not (of-sound m) h hs e) i)
 
       pub scattered : (x : Buffers) (hs : List Hit) → Long x → ((h : Hit) → h ∈ hs → h .note < 128)
@@ -199,7 +206,7 @@ module _ (g : Grid) (kind : Kind g) where
       unfolding kept
       scattered x [] w low i n l = refl
       scattered x (h ∷ hs) w low i n l =
-          scattered (put g starts marks x h) hs (long-on starts marks (h .note) (step-of g h) (g .steps) x w) (λ k m. low k (inr m))
+          scattered (put g starts marks x h) hs (long-on starts marks (h .note) (step-of g h) (g .steps) (h .velocity) x w) (λ k m. low k (inr m))
           (λ m k. inside-on x h hs m w k (i m k)) n l
           ∙ step (eqb (h .note) n) refl
         where
@@ -219,6 +226,6 @@ module _ (g : Grid) (kind : Kind g) where
           step false e =
               rw (
                 kept-not (of-sound n) h hs e,
-                tables-there starts marks (h .note) (step-of g h) (g .steps) x n (λ f. eqb-false _ _ e (sym f)),
+                tables-there starts marks (h .note) (step-of g h) (g .steps) (h .velocity) x n (λ f. eqb-false _ _ e (sym f)),
                 part-there x h n (eqb-false _ _ e) (low h (inl refl)) l (own .0) (own .1),
               )

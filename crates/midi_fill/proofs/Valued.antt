@@ -50,6 +50,9 @@ module _ (g : Grid) where
   abbrev pub counts-kind : Kind g
   counts-kind = by-bar (λ h s. s .inside)
 
+  abbrev pub loud-kind : Kind g
+  loud-kind = by-step (λ h s. s .loud)
+
 -- ---- steps in a bar
 
 module _ (g : Grid) where

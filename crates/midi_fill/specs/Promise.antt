@@ -24,6 +24,7 @@ pub record Puttable (starts marks : List ℕ) (note step bar steps : ℕ) (x : B
   pub ids-fit : getD starts note 0 + (getD (x .postings) note 0 + opens (getD (x .last) note 0) step steps) ≤ length (x .ids)
   pub counts-fit : getD starts note 0 + (getD (x .postings) note 0 + opens (getD (x .last) note 0) step steps) ≤ length (x .counts)
   pub steps-fit : getD marks note 0 + (getD (x .positions) note 0 + fresh (getD (x .last) note 0) step) ≤ length (x .steps)
+  pub velocities-fit : getD marks note 0 + (getD (x .positions) note 0 + fresh (getD (x .last) note 0) step) ≤ length (x .velocities)
 
 -- what the filling asks: the file was counted, the tables are empty, and the counts fit into the lists
 pub record Fillable (file : List ℕ) (ticks steps : ℕ) (starts marks : List ℕ) (x : Buffers) : Type 0 where
@@ -46,6 +47,7 @@ pub record Fillable (file : List ℕ) (ticks steps : ℕ) (starts marks : List �
   pub ids-fit : (n : ℕ) → n < 128 → getD starts n 0 + getD (total .postings) n 0 ≤ length (x .ids)
   pub counts-fit : (n : ℕ) → n < 128 → getD starts n 0 + getD (total .postings) n 0 ≤ length (x .counts)
   pub steps-fit : (n : ℕ) → n < 128 → getD marks n 0 + getD (total .positions) n 0 ≤ length (x .steps)
+  pub velocities-fit : (n : ℕ) → n < 128 → getD marks n 0 + getD (total .positions) n 0 ≤ length (x .velocities)
 
 -- the tables and lists afterwards, where the file was read to its end
 abbrev pub Filled-so : Result Buffers → Buffers → Type 0

@@ -18,18 +18,18 @@ use Rattle.midi_fill.proofs.fill.fill.Statement.{statement}
 use Rattle.midi_fill.proofs.fill.fill.Tie as tie
 
 abbrev Inv-loop : tie.InvT-loop
-Inv-loop s ticks steps last₀ postings₀ positions₀ inside₀ starts marks ids₀ counts₀ places₀ reader₀
-    last postings positions inside ids counts places reader =
-    Standing s (grid ticks steps) starts marks (buffers last₀ postings₀ positions₀ inside₀ ids₀ counts₀ places₀)
-    (buffers last postings positions inside ids counts places) reader
+Inv-loop s ticks steps last₀ postings₀ positions₀ inside₀ loud₀ starts marks ids₀ counts₀ places₀ velocities₀ reader₀
+    last postings positions inside loud ids counts places velocities reader =
+    Standing s (grid ticks steps) starts marks (buffers last₀ postings₀ positions₀ inside₀ loud₀ ids₀ counts₀ places₀ velocities₀)
+    (buffers last postings positions inside loud ids counts places velocities) reader
 
 abbrev μ-loop : tie.MeasureT-loop
-μ-loop s ticks steps last₀ postings₀ positions₀ inside₀ starts marks ids₀ counts₀ places₀ reader₀
-    last postings positions inside ids counts places reader = length s - reader .at
+μ-loop s ticks steps last₀ postings₀ positions₀ inside₀ loud₀ starts marks ids₀ counts₀ places₀ velocities₀ reader₀
+    last postings positions inside loud ids counts places velocities reader = length s - reader .at
 
 -- behind an event: the loop's start, and what the code was told of it
 abbrev start : tie.At-loop Inv-loop μ-loop → tie.Start Inv-loop μ-loop
-start l = l .before .before .before .before .before
+start l = l .before .before .before .before .before .before
 
 abbrev bytes : tie.At-loop Inv-loop μ-loop → List ℕ
 bytes l = now (start l .args .s)
@@ -47,7 +47,7 @@ a-silent : (c : tie.After-known-told2 Inv-loop μ-loop) → let l = c .before .b
 a-silent c = sym (c .before .before .before .step .ensures) ∙ c .before .next .given .1
 
 loop-holds : tie.Need-loop-holds Inv-loop μ-loop
-loop-holds c = let p = c .before .before .before .before in standing-start _ _ _ _ _ _ (p .pre)
+loop-holds c = let p = c .before .before .before .before .before in standing-start _ _ _ _ _ _ (p .pre)
 
 step-requires : tie.Need-step-requires Inv-loop μ-loop
 step-requires c κs = c .loop .inv .within
@@ -70,29 +70,40 @@ same-length-2 c = at-hit (c .before) .loop .inv .same-counts
 same-length-3 : tie.Need-same-length-3 Inv-loop μ-loop
 same-length-3 c = at-hit (c .before) .loop .inv .same-steps
 
+same-length-4 : tie.Need-same-length-4 Inv-loop μ-loop
+same-length-4 c = at-hit (c .before) .loop .inv .same-velocities
+
 returns : tie.Need-returns Inv-loop μ-loop
 returns c = let l = at-hit (c .before) in filled-far _ _ _ _ _ _ _ (l .loop .inv) (a-hit (c .before)) (c .if1 .taken)
 
 cast-note : tie.Need-cast-note Inv-loop μ-loop
 cast-note c = search needs
 
+cast-velocity : tie.Need-cast-velocity Inv-loop μ-loop
+cast-velocity c =
+    let near = c .before .before in
+    let l = at-hit (near .before) in
+    let heard = past-hit (bytes l) (l .loop .reader) (a-hit (near .before)) .2 in
+    omega (arith, heard .velocity)
+
 put-hit-requires : tie.Need-put-hit-requires Inv-loop μ-loop
 put-hit-requires c κs =
-    let near = c .before .before .before .before .before .before .before .before in
+    let near = c .before .before .before .before .before .before .before .before .before .before .before in
     let l = at-hit (near .before) in
     puttable _ _ _ _ _ _ _ (l .loop .inv) (a-hit (near .before)) (near .if1 .left) (start l .pre .some-steps) (start l .pre .steps-few)
 
 loop-less : tie.Need-loop-less Inv-loop μ-loop
 loop-less c =
-    let near = c .before .before .before .before .before .before .before .before .before .before .before .before .before .before .before in
+    let put = c .before .before .before .before .before .before .before .before in
+    let near = put .before .before .before .before .before .before .before .before .before .before .before .before in
     let l = at-hit (near .before) in
     let m = past-hit (bytes l) (l .loop .reader) (a-hit (near .before)) .0 in
     omega (arith, m .on, m .inside)
 
 loop-again : tie.Need-loop-again Inv-loop μ-loop
 loop-again c =
-    let put = c .before .before .before .before .before .before in
-    let near = put .before .before .before .before .before .before .before .before .before in
+    let put = c .before .before .before .before .before .before .before .before in
+    let near = put .before .before .before .before .before .before .before .before .before .before .before .before in
     let l = at-hit (near .before) in
     standing-put _ _ _ _ _ _ _ (l .loop .inv) (a-hit (near .before)) (near .if1 .left) _ (put .put-hit .ensures)
 
@@ -111,14 +122,17 @@ loop-again-2 c = let l = c .before .before .before .before in standing-silent _ 
 enum-told : tie.Need-enum-told Inv-loop μ-loop
 enum-told c = search needs
 
-same-length-4 : tie.Need-same-length-4 Inv-loop μ-loop
-same-length-4 c = c .before .before .before .loop .inv .same-ids
-
 same-length-5 : tie.Need-same-length-5 Inv-loop μ-loop
-same-length-5 c = c .before .before .before .loop .inv .same-counts
+same-length-5 c = c .before .before .before .loop .inv .same-ids
 
 same-length-6 : tie.Need-same-length-6 Inv-loop μ-loop
-same-length-6 c = c .before .before .before .loop .inv .same-steps
+same-length-6 c = c .before .before .before .loop .inv .same-counts
+
+same-length-7 : tie.Need-same-length-7 Inv-loop μ-loop
+same-length-7 c = c .before .before .before .loop .inv .same-steps
+
+same-length-8 : tie.Need-same-length-8 Inv-loop μ-loop
+same-length-8 c = c .before .before .before .loop .inv .same-velocities
 
 returns-2 : tie.Need-returns-2 Inv-loop μ-loop
 returns-2 c =
@@ -128,14 +142,17 @@ returns-2 c =
 enum-told-2 : tie.Need-enum-told-2 Inv-loop μ-loop
 enum-told-2 c = search needs
 
-same-length-7 : tie.Need-same-length-7 Inv-loop μ-loop
-same-length-7 c = c .before .before .before .loop .inv .same-ids
-
-same-length-8 : tie.Need-same-length-8 Inv-loop μ-loop
-same-length-8 c = c .before .before .before .loop .inv .same-counts
-
 same-length-9 : tie.Need-same-length-9 Inv-loop μ-loop
-same-length-9 c = c .before .before .before .loop .inv .same-steps
+same-length-9 c = c .before .before .before .loop .inv .same-ids
+
+same-length-10 : tie.Need-same-length-10 Inv-loop μ-loop
+same-length-10 c = c .before .before .before .loop .inv .same-counts
+
+same-length-11 : tie.Need-same-length-11 Inv-loop μ-loop
+same-length-11 c = c .before .before .before .loop .inv .same-steps
+
+same-length-12 : tie.Need-same-length-12 Inv-loop μ-loop
+same-length-12 c = c .before .before .before .loop .inv .same-velocities
 
 returns-3 : tie.Need-returns-3 Inv-loop μ-loop
 returns-3 c =
@@ -156,8 +173,10 @@ fill-spec =
     same-length
     same-length-2
     same-length-3
+    same-length-4
     returns
     cast-note
+    cast-velocity
     put-hit-requires
     loop-less
     loop-again
@@ -165,12 +184,14 @@ fill-spec =
     loop-less-2
     loop-again-2
     enum-told
-    same-length-4
     same-length-5
     same-length-6
-    returns-2
-    enum-told-2
     same-length-7
     same-length-8
+    returns-2
+    enum-told-2
     same-length-9
+    same-length-10
+    same-length-11
+    same-length-12
     returns-3)

@@ -50,13 +50,19 @@ element-copy-out-in-last-bar c = search needs
 
 in-last-bar-requires : tie.Need-in-last-bar-requires
 in-last-bar-requires c κs =
-    let p = c .before .before .before .before .before .before .before .before .before in
+    let p = c .before .before .before .before .before .before .before .before .before .before in
     omega (
       arith,
       p .pre .inside-low .holds (p .args .note),
       fresh-le (getD (now (p .args .last)) (p .args .note) 0) (p .args .step),
       c .before .before .before .is-fresh .ensures,
     )
+
+element-copy-out-loudest-on-step : tie.Need-element-copy-out-loudest-on-step
+element-copy-out-loudest-on-step c = search needs
+
+loudest-on-step-requires : tie.Need-loudest-on-step-requires
+loudest-on-step-requires c κs = search needs
 
 mul-a : tie.Need-mul-a
 mul-a c = search needs
@@ -109,9 +115,12 @@ mul-inside c = search needs
 element-write-inside : tie.Need-element-write-inside
 element-write-inside c = search needs
 
+element-write-loud : tie.Need-element-write-loud
+element-write-loud c = search needs
+
 cast-ids : tie.Need-cast-ids
 cast-ids c =
-    let p = c .before .before .before .before .before .before .before .before .before .before .before .before in
+    let p = c .before .before .before .before .before .before .before .before .before .before .before .before .before .before .before in
     let w = p .pre .in-bar in
     omega (arith, w .bar-is, div-le-self (p .args .step) (p .args .steps), w .near)
 
@@ -123,14 +132,14 @@ slice-write-ids c = search needs
 
 cast-counts : tie.Need-cast-counts
 cast-counts c =
-    let fresh = c .before .before .before .before .before .before in
-    let p = fresh .before .before .before .before .before .before in
+    let fresh = c .before .before .before .before .before .before .before .before in
+    let p = fresh .before .before .before .before .before .before .before in
     omega (
       arith,
       p .pre .inside-low .holds (p .args .note),
       fresh-le (getD (now (p .args .last)) (p .args .note) 0) (p .args .step),
       fresh .is-fresh .ensures,
-      c .before .before .in-last-bar .ensures,
+      c .before .before .before .before .in-last-bar .ensures,
       in-last-le (fresh .before .does-open .result) (fresh .is-fresh .result) (getD (now (p .args .inside)) (p .args .note) 0),
     )
 
@@ -142,17 +151,17 @@ slice-write-counts c = search needs
 
 mul-places : tie.Need-mul-places
 mul-places c =
-    let w = c .before .before .before .before .before .before .before .before .before .before .before .before .pre .in-bar in
+    let w = c .before .before .before .before .before .before .before .before .before .before .before .before .before .before .before .pre .in-bar in
     omega (arith, first-le _ _ _ (w .bar-is), w .near)
 
 sub-places : tie.Need-sub-places
 sub-places c =
-    let w = c .before .before .before .before .before .before .before .before .before .before .before .before .pre .in-bar in
+    let w = c .before .before .before .before .before .before .before .before .before .before .before .before .before .before .before .pre .in-bar in
     omega (arith, first-le _ _ _ (w .bar-is))
 
 cast-places : tie.Need-cast-places
 cast-places c =
-    let w = c .before .before .before .before .before .before .before .before .before .before .before .before .pre .in-bar in
+    let w = c .before .before .before .before .before .before .before .before .before .before .before .before .before .before .before .pre .in-bar in
     omega (arith, w .near)
 
 mul-places-2 : tie.Need-mul-places-2
@@ -160,6 +169,9 @@ mul-places-2 c = search needs
 
 slice-write-places : tie.Need-slice-write-places
 slice-write-places c = search needs
+
+slice-write-velocities : tie.Need-slice-write-velocities
+slice-write-velocities c = search needs
 
 same-length : tie.Need-same-length
 same-length c = search needs
@@ -170,14 +182,18 @@ same-length-2 c = search needs
 same-length-3 : tie.Need-same-length-3
 same-length-3 c = search needs
 
+same-length-4 : tie.Need-same-length-4
+same-length-4 c = search needs
+
 returns : tie.Need-returns
 returns c =
-    let fresh = c .before .before .before .before .before .before in
-    let p = fresh .before .before .before .before .before .before in
-    stored-as (now (p .args .starts)) (now (p .args .marks)) (p .args .note) (p .args .step) (p .args .steps)
-    (buffers (now (p .args .last)) (now (p .args .postings)) (now (p .args .positions)) (now (p .args .inside)) (now (p .args .ids))
-    (now (p .args .counts)) (now (p .args .places)))
-    (fresh .before .does-open .ensures) (fresh .is-fresh .ensures) (c .before .before .in-last-bar .ensures)
+    let fresh = c .before .before .before .before .before .before .before .before in
+    let p = fresh .before .before .before .before .before .before .before in
+    stored-as (now (p .args .starts)) (now (p .args .marks)) (p .args .note) (p .args .step) (p .args .steps) (p .args .velocity)
+    (buffers (now (p .args .last)) (now (p .args .postings)) (now (p .args .positions)) (now (p .args .inside)) (now (p .args .loud))
+    (now (p .args .ids)) (now (p .args .counts)) (now (p .args .places)) (now (p .args .velocities)))
+    (fresh .before .does-open .ensures) (fresh .is-fresh .ensures) (c .before .before .before .before .in-last-bar .ensures)
+    (c .before .before .loudest-on-step .ensures)
     (p .pre .in-bar .bar-is) (in-bar-rest _ _ _ (p .pre .in-bar .bar-is))
 
 pub put-hit-spec : {M : Type 1} → statement M
@@ -197,6 +213,8 @@ put-hit-spec =
     mul-in-last-bar
     element-copy-out-in-last-bar
     in-last-bar-requires
+    element-copy-out-loudest-on-step
+    loudest-on-step-requires
     mul-a
     element-copy-out-a
     add-a
@@ -214,6 +232,7 @@ put-hit-spec =
     element-write-positions
     mul-inside
     element-write-inside
+    element-write-loud
     cast-ids
     mul-ids
     slice-write-ids
@@ -225,7 +244,9 @@ put-hit-spec =
     cast-places
     mul-places-2
     slice-write-places
+    slice-write-velocities
     same-length
     same-length-2
     same-length-3
+    same-length-4
     returns)
