@@ -1,4 +1,4 @@
--- 13 by lengths: each way out of the eight tests, and that they are the definition's.
+-- 13 by lengths: each way out of the nine tests, and that they are the definition's.
 -- Assumes nothing.
 use mathlib.Core.Path.{_≡_, refl, sym, ap, _∙_}
 use mathlib.Core.Bool.{Bool, true, false}
@@ -13,15 +13,17 @@ use Rattle.segment.specs.declared.checked.Checked.the-variants as check
 use Rattle.segment.specs.declared.replies.ListTotals.{ListTotals}
 use Rattle.segment.specs.Refusals.{no-room}
 use Rattle.segment.specs.Results.{Result, ok, roomy}
+use Rattle.segment.specs.Results as results
 use Rattle.segment.proofs.Accepted.{check-gives}
+use Rattle.segment.proofs.Binds.{bind-gives}
 use Rattle.segment.specs.Steps.{checked}
-use Rattle.calls.specs.Given.{Lists}
-use Rattle.midi_bars.specs.Imports.{roomy-all}
-use Rattle.midi_import.specs.Steps.{room-of}
+use Rattle.midi_bars.specs.Loudness.{All-lists}
+use Rattle.midi_bars.specs.Imports.{roomy-all, roomy-beside}
+use Rattle.midi_import.specs.Steps.{room-beside}
 
-module _ (t : ListTotals) (i l x e pc pi kc ps : ℕ) where
+module _ (t : ListTotals) (i l x e pc pi kc ps v : ℕ) where
   abbrev R : Checked
-  R = checked (room-of t i l x e pc pi kc ps)
+  R = checked (room-beside t i l x e pc pi kc ps v)
 
   pub short-1 : i < t .documents → check.Refused (no-room 1 (t .documents)) ≡ R
   short-1 h = rw (lt-leb (t .documents) i h)
@@ -88,72 +90,106 @@ module _ (t : ListTotals) (i l x e pc pi kc ps : ℕ) where
                       lt-leb (t .positions) ps h,
                     )
 
-                pub all-fit : t .positions ≤ ps → check.Passed ≡ R
-                all-fit h =
-                    rw (
-                      le-leb (t .documents) i a,
-                      le-leb (t .documents) l b,
-                      le-leb (4 * t .terms) x c,
-                      le-leb (t .terms) e d,
-                      le-leb (t .terms) pc f,
-                      le-leb (t .postings) pi g,
-                      le-leb (t .postings) kc k,
-                      le-leb (t .positions) ps h,
-                    )
+                module _ (m : t .positions ≤ ps) where
+                  pub short-9 : v < t .positions → check.Refused (no-room 9 (t .positions)) ≡ R
+                  short-9 h =
+                      rw (
+                        le-leb (t .documents) i a,
+                        le-leb (t .documents) l b,
+                        le-leb (4 * t .terms) x c,
+                        le-leb (t .terms) e d,
+                        le-leb (t .terms) pc f,
+                        le-leb (t .postings) pi g,
+                        le-leb (t .postings) kc k,
+                        le-leb (t .positions) ps m,
+                        lt-leb (t .positions) v h,
+                      )
 
--- the lengths of eight lists
-pub record Totals-of (l : Lists) (t : ListTotals) : Type 0 where
-  pub ids : length (l .ids) ≡ t .documents
-  pub lengths : length (l .lengths) ≡ t .documents
-  pub text : length (l .text) ≡ 4 * t .terms
-  pub ends : length (l .ends) ≡ t .terms
-  pub posting-counts : length (l .posting-counts) ≡ t .terms
-  pub posting-ids : length (l .posting-ids) ≡ t .postings
-  pub position-counts : length (l .position-counts) ≡ t .postings
-  pub positions : length (l .positions) ≡ t .positions
+                  pub all-fit : t .positions ≤ v → check.Passed ≡ R
+                  all-fit h =
+                      rw (
+                        le-leb (t .documents) i a,
+                        le-leb (t .documents) l b,
+                        le-leb (4 * t .terms) x c,
+                        le-leb (t .terms) e d,
+                        le-leb (t .terms) pc f,
+                        le-leb (t .postings) pi g,
+                        le-leb (t .postings) kc k,
+                        le-leb (t .positions) ps m,
+                        le-leb (t .positions) v h,
+                      )
+
+-- the lengths of nine lists
+pub record Totals-of (a : All-lists) (t : ListTotals) : Type 0 where
+  pub ids : length (a .lists .ids) ≡ t .documents
+  pub lengths : length (a .lists .lengths) ≡ t .documents
+  pub text : length (a .lists .text) ≡ 4 * t .terms
+  pub ends : length (a .lists .ends) ≡ t .terms
+  pub posting-counts : length (a .lists .posting-counts) ≡ t .terms
+  pub posting-ids : length (a .lists .posting-ids) ≡ t .postings
+  pub position-counts : length (a .lists .position-counts) ≡ t .postings
+  pub positions : length (a .lists .positions) ≡ t .positions
+  pub velocities : length (a .velocities) ≡ t .positions
 
 -- the tests by lengths are the definition's
-pub room-is : (l b : Lists) (t : ListTotals) → Totals-of l t
-    → room-of t (length (b .ids)) (length (b .lengths)) (length (b .text)) (length (b .ends)) (length (b .posting-counts))
-    (length (b .posting-ids)) (length (b .position-counts)) (length (b .positions))
-    ≡ roomy-all l b
-unfolding roomy-all
-room-is l b t w =
-    rw (w .ids, w .lengths, w .text, w .ends, w .posting-counts, w .posting-ids, w .position-counts, w .positions)
+pub room-is : (a b : All-lists) (t : ListTotals) → Totals-of a t → let r = b .lists in
+    room-beside t (length (r .ids)) (length (r .lengths)) (length (r .text)) (length (r .ends)) (length (r .posting-counts))
+    (length (r .posting-ids)) (length (r .position-counts)) (length (r .positions)) (length (b .velocities))
+    ≡ roomy-beside a b
+unfolding roomy-all roomy-beside
+room-is a b t w =
+    rw (
+      w .ids,
+      w .lengths,
+      w .text,
+      w .ends,
+      w .posting-counts,
+      w .posting-ids,
+      w .position-counts,
+      w .positions,
+      w .velocities,
+    )
 
 -- what passing them gives
-pub record Room-enough (l b : Lists) : Type 0 where
-  pub ids : length (l .ids) ≤ length (b .ids)
-  pub lengths : length (l .lengths) ≤ length (b .lengths)
-  pub text : length (l .text) ≤ length (b .text)
-  pub ends : length (l .ends) ≤ length (b .ends)
-  pub posting-counts : length (l .posting-counts) ≤ length (b .posting-counts)
-  pub posting-ids : length (l .posting-ids) ≤ length (b .posting-ids)
-  pub position-counts : length (l .position-counts) ≤ length (b .position-counts)
-  pub positions : length (l .positions) ≤ length (b .positions)
+pub record Room-enough (a b : All-lists) : Type 0 where
+  pub ids : length (a .lists .ids) ≤ length (b .lists .ids)
+  pub lengths : length (a .lists .lengths) ≤ length (b .lists .lengths)
+  pub text : length (a .lists .text) ≤ length (b .lists .text)
+  pub ends : length (a .lists .ends) ≤ length (b .lists .ends)
+  pub posting-counts : length (a .lists .posting-counts) ≤ length (b .lists .posting-counts)
+  pub posting-ids : length (a .lists .posting-ids) ≤ length (b .lists .posting-ids)
+  pub position-counts : length (a .lists .position-counts) ≤ length (b .lists .position-counts)
+  pub positions : length (a .lists .positions) ≤ length (b .lists .positions)
+  pub velocities : length (a .velocities) ≤ length (b .velocities)
 
-pub room-gives : (l b : Lists) {u : Unit {0}} → roomy-all l b ≡ ok u → Room-enough l b
-unfolding roomy-all
-room-gives l b e =
-    let (a, e₁) = check-gives (leb (length (l .ids)) (length (b .ids))) _ _ e in
-    let (c, e₂) = check-gives (leb (length (l .lengths)) (length (b .lengths))) _ _ e₁ in
-    let (d, e₃) = check-gives (leb (length (l .text)) (length (b .text))) _ _ e₂ in
-    let (f, e₄) = check-gives (leb (length (l .ends)) (length (b .ends))) _ _ e₃ in
-    let (g, e₅) = check-gives (leb (length (l .posting-counts)) (length (b .posting-counts))) _ _ e₄ in
-    let (h, e₆) = check-gives (leb (length (l .posting-ids)) (length (b .posting-ids))) _ _ e₅ in
-    let (i, e₇) = check-gives (leb (length (l .position-counts)) (length (b .position-counts))) _ _ e₆ in
-    record {
-      ids = leb-true _ _ a;
-      lengths = leb-true _ _ c;
-      text = leb-true _ _ d;
-      ends = leb-true _ _ f;
-      posting-counts = leb-true _ _ g;
-      posting-ids = leb-true _ _ h;
-      position-counts = leb-true _ _ i;
-      positions = last (leb (length (l .positions)) (length (b .positions))) refl e₇;
-    }
+fits : {u : Unit {0}} (buffer n m : ℕ) → roomy buffer n m ≡ ok u → n ≤ m
+fits buffer n m e = step (leb n m) refl e
   where
-    last : {u : Unit {0}} (t : Bool) → leb (length (l .positions)) (length (b .positions)) ≡ t
-        → roomy 8 (length (l .positions)) (length (b .positions)) ≡ ok u → length (l .positions) ≤ length (b .positions)
-    last true t e = leb-true _ _ t
-    last false t e = let f = rw t at e in let z : _≡_ {A = ℕ} 0 1 = cc in absurd (omega arith)
+    step : {u : Unit {0}} (t : Bool) → leb n m ≡ t → results.check t (no-room buffer n) ≡ ok u → n ≤ m
+    step true t e = leb-true n m t
+    step false t e = let z : _≡_ {A = ℕ} 0 1 = cc in absurd (omega arith)
+
+pub room-gives : (a b : All-lists) {u : Unit {0}} → roomy-beside a b ≡ ok u → Room-enough a b
+unfolding roomy-all roomy-beside
+room-gives a b e =
+    let l = a .lists in
+    let r = b .lists in
+    let (_, eight, nine) = bind-gives (roomy-all l r) _ e in
+    let (i, e₁) = check-gives (leb (length (l .ids)) (length (r .ids))) _ _ eight in
+    let (j, e₂) = check-gives (leb (length (l .lengths)) (length (r .lengths))) _ _ e₁ in
+    let (t, e₃) = check-gives (leb (length (l .text)) (length (r .text))) _ _ e₂ in
+    let (n, e₄) = check-gives (leb (length (l .ends)) (length (r .ends))) _ _ e₃ in
+    let (p, e₅) = check-gives (leb (length (l .posting-counts)) (length (r .posting-counts))) _ _ e₄ in
+    let (q, e₆) = check-gives (leb (length (l .posting-ids)) (length (r .posting-ids))) _ _ e₅ in
+    let (k, e₇) = check-gives (leb (length (l .position-counts)) (length (r .position-counts))) _ _ e₆ in
+    record {
+      ids = leb-true _ _ i;
+      lengths = leb-true _ _ j;
+      text = leb-true _ _ t;
+      ends = leb-true _ _ n;
+      posting-counts = leb-true _ _ p;
+      posting-ids = leb-true _ _ q;
+      position-counts = leb-true _ _ k;
+      positions = fits 8 _ _ e₇;
+      velocities = fits 9 _ _ nine;
+    }

@@ -10,9 +10,10 @@ use midi_read::chunks::read_chunks;
 use segment::checked::Checked;
 use segment::replies::Imported;
 use segment::replies::ListTotals;
-ghost use Rattle.common.specs.Slices.{was};
+ghost use Rattle.common.specs.Slices.{was, left};
 ghost use Rattle.calls.specs.Given.{given-lists, left-lists};
 ghost use Rattle.midi_read.specs.Files.{grid};
+ghost use Rattle.midi_bars.specs.Loudness.{beside};
 ghost use Rattle.midi_import.specs.Steps.{Tabled, Chunked, Events-imported};
 ghost use Rattle.midi_import.specs.Promise.{Bars-imported};
 
@@ -38,11 +39,12 @@ fn import_counted(
     posting_ids: &mut [u32],
     position_counts: &mut [u32],
     positions: &mut [u32],
+    velocities: &mut [u8],
 ) -> Imported
     requires { ⌜ Tabled (now file) ticks steps bars (now postings) (now marked) ⌝ }
     ensures { λ r. ⌜ Events-imported (grid ticks steps) (was file)
-        (given-lists ids lengths text ends «posting_counts» «posting_ids» «position_counts» positions) r
-        (left-lists ids lengths text ends «posting_counts» «posting_ids» «position_counts» positions) ⌝ }
+        (beside (given-lists ids lengths text ends «posting_counts» «posting_ids» «position_counts» positions) (was velocities)) r
+        (beside (left-lists ids lengths text ends «posting_counts» «posting_ids» «position_counts» positions) (left velocities)) ⌝ }
 {
     let mut starts: [u64; 128] = [0; 128];
     let mut marks: [u64; 128] = [0; 128];
@@ -66,6 +68,7 @@ fn import_counted(
         posting_ids.len(),
         position_counts.len(),
         positions.len(),
+        velocities.len(),
     ) {
         Checked::Refused(x) => Imported::Refused(x),
         Checked::Passed => {
@@ -85,6 +88,7 @@ fn import_counted(
                 &mut posting_ids[..all_postings],
                 &mut position_counts[..all_postings],
                 &mut positions[..all_positions],
+                &mut velocities[..all_positions],
             );
             Imported::Totals(totals)
         }
@@ -104,11 +108,12 @@ fn import_events(
     posting_ids: &mut [u32],
     position_counts: &mut [u32],
     positions: &mut [u32],
+    velocities: &mut [u8],
 ) -> Imported
     requires { ⌜ Chunked (now file) ticks steps ⌝ }
     ensures { λ r. ⌜ Events-imported (grid ticks steps) (was file)
-        (given-lists ids lengths text ends «posting_counts» «posting_ids» «position_counts» positions) r
-        (left-lists ids lengths text ends «posting_counts» «posting_ids» «position_counts» positions) ⌝ }
+        (beside (given-lists ids lengths text ends «posting_counts» «posting_ids» «position_counts» positions) (was velocities)) r
+        (beside (left-lists ids lengths text ends «posting_counts» «posting_ids» «position_counts» positions) (left velocities)) ⌝ }
 {
     let mut last: [u64; 128] = [0; 128];
     let mut held: [u64; 128] = [0; 128];
@@ -130,12 +135,13 @@ fn import_events(
             posting_ids,
             position_counts,
             positions,
+            velocities,
         ),
     }
 }
 
-// Reads a Standard MIDI File of format 0 into the eight lists that the writer takes, and answers how many documents (bars), terms (sounds),
-// postings and positions there are. Refused are 12, 14 and 15, in file order, then 13.
+// Reads a Standard MIDI File of format 0 into the eight lists that the writer takes and the velocities beside the positions, and answers
+// how many documents (bars), terms (sounds), postings and positions there are. Refused are 12, 14 and 15, in file order, then 13.
 pub fn midi_bars(
     file: &[u8],
     ids: &mut [u32],
@@ -146,10 +152,11 @@ pub fn midi_bars(
     posting_ids: &mut [u32],
     position_counts: &mut [u32],
     positions: &mut [u32],
+    velocities: &mut [u8],
 ) -> Imported
     ensures { λ r. ⌜ Bars-imported 16 4 (was file)
-        (given-lists ids lengths text ends «posting_counts» «posting_ids» «position_counts» positions) r
-        (left-lists ids lengths text ends «posting_counts» «posting_ids» «position_counts» positions) ⌝ }
+        (beside (given-lists ids lengths text ends «posting_counts» «posting_ids» «position_counts» positions) (was velocities)) r
+        (beside (left-lists ids lengths text ends «posting_counts» «posting_ids» «position_counts» positions) (left velocities)) ⌝ }
 {
     match read_chunks(file, QUARTER) {
         Chunks::Refused(x) => Imported::Refused(x),
@@ -165,6 +172,7 @@ pub fn midi_bars(
             posting_ids,
             position_counts,
             positions,
+            velocities,
         ),
     }
 }

@@ -1,11 +1,11 @@
-// 13: the first of the eight buffers that is too short.
+// 13: the first of the nine buffers that is too short.
 use segment::checked::Checked;
 use segment::refusal::no_room;
 use segment::replies::ListTotals;
 ghost use mathlib.Core.Path.{_≡_};
 ghost use Prim.Native.Nat.{_≤_};
 ghost use Rattle.segment.specs.Steps.{checked};
-ghost use Rattle.midi_import.specs.Steps.{room-of};
+ghost use Rattle.midi_import.specs.Steps.{room-beside};
 
 // Whether each list fits its buffer; a name has four bytes.
 pub fn check_room(
@@ -18,9 +18,11 @@ pub fn check_room(
     posting_ids: usize,
     position_counts: usize,
     positions: usize,
+    velocities: usize,
 ) -> Checked
     requires { ⌜ needed .terms ≤ 128 ⌝ }
-    ensures { λ r. ⌜ r ≡ checked (room-of needed ids lengths text ends «posting_counts» «posting_ids» «position_counts» positions) ⌝ }
+    ensures { λ r. ⌜ r ≡ checked (room-beside needed ids lengths text ends «posting_counts» «posting_ids» «position_counts» positions
+        velocities) ⌝ }
 {
     if ids < needed.documents {
         return Checked::Refused(no_room(1, needed.documents));
@@ -45,6 +47,9 @@ pub fn check_room(
     }
     if positions < needed.positions {
         return Checked::Refused(no_room(8, needed.positions));
+    }
+    if velocities < needed.positions {
+        return Checked::Refused(no_room(9, needed.positions));
     }
     Checked::Passed
 }

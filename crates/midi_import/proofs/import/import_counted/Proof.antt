@@ -5,10 +5,10 @@ use lib.Seq.{length-take-le}
 use denote.Ref.{now}
 use Rattle.segment.specs.Results.{ok}
 use Rattle.segment.specs.declared.replies.ListTotals.{ListTotals}
-use Rattle.calls.specs.Given.{Lists, lists}
+use Rattle.calls.specs.Given.{lists}
 use Rattle.midi_read.specs.Files.{grid}
-use Rattle.midi_bars.specs.Bars.{lists-of}
-use Rattle.midi_bars.specs.Imports.{roomy-all}
+use Rattle.midi_bars.specs.Loudness.{All-lists, beside, all-of}
+use Rattle.midi_bars.specs.Imports.{roomy-beside}
 use Rattle.midi_import.proofs.Rooms.{Totals-of, Room-enough, room-gives}
 use Rattle.midi_import.proofs.Listed.{summable-postings, summable-positions, terms-few, tabled-totals, store-fits, cut}
 use Rattle.midi_import.proofs.Imported.{room-passed, room-refused, events-short, events-stored}
@@ -17,7 +17,7 @@ use Rattle.midi_import.proofs.import.import_counted.Tie as tie
 
 -- the call of check_room, and what holds before it
 abbrev entry : tie.After-check-room → tie.Start
-entry k = k .before .before .before .before .before .before .before .before .before .before .before .before .before .before .before
+entry k = k .before .before .before .before .before .before .before .before .before .before .before .before .before .before .before .before
 
 abbrev found : tie.After-check-room → ListTotals
 found k = record {
@@ -27,32 +27,32 @@ found k = record {
   positions = k .before .before .begin2 .result;
 }
 
-abbrev room : tie.After-check-room → Lists
+abbrev room : tie.After-check-room → All-lists
 room k =
     let a = entry k .args in
-    lists (now (a .ids)) (now (a .lengths)) (now (a .text)) (now (a .ends)) (now (a .posting-counts)) (now (a .posting-ids))
-    (now (a .position-counts)) (now (a .positions))
+    beside (lists (now (a .ids)) (now (a .lengths)) (now (a .text)) (now (a .ends)) (now (a .posting-counts)) (now (a .posting-ids))
+    (now (a .position-counts)) (now (a .positions))) (now (a .velocities))
 
-abbrev all : tie.After-check-room → Lists
-all k = lists-of (grid (entry k .args .ticks) (entry k .args .steps)) (entry k .pre .hs)
+abbrev all : tie.After-check-room → All-lists
+all k = all-of (grid (entry k .args .ticks) (entry k .args .steps)) (entry k .pre .hs)
 
 totals : (k : tie.After-check-room) → Totals-of (all k) (found k)
 totals k =
     tabled-totals (entry k .pre) (found k) refl (k .before .count-sounds .ensures) (k .before .before .before .before .begin .ensures .all)
     (k .before .before .begin2 .ensures .all)
 
-passed : (k : tie.After-enum-told) → roomy-all (all (k .before .before)) (room (k .before .before)) ≡ ok tt
+passed : (k : tie.After-enum-told) → roomy-beside (all (k .before .before)) (room (k .before .before)) ≡ ok tt
 passed k = room-passed _ _ _ (totals (k .before .before)) (k .before .before .check-room .ensures) (k .enum-told .given .1)
 
 enough : (k : tie.After-enum-told) → Room-enough (all (k .before .before)) (room (k .before .before))
 enough k = room-gives _ _ (passed k)
 
 begin-requires : tie.Need-begin-requires
-begin-requires c κs = summable-postings (c .before .before .before .before .before .before .before .before .before .before .pre) _ refl
+begin-requires c κs = summable-postings (c .before .before .before .before .before .before .before .before .before .before .before .pre) _ refl
 
 begin-requires-2 : tie.Need-begin-requires-2
 begin-requires-2 c κs =
-    let p = c .before .before .before .before .before .before .before .before .before .before .before .before in
+    let p = c .before .before .before .before .before .before .before .before .before .before .before .before .before in
     summable-positions (p .pre) _ refl
 
 count-sounds-requires : tie.Need-count-sounds-requires
@@ -60,7 +60,7 @@ count-sounds-requires c κs = search needs
 
 check-room-requires : tie.Need-check-room-requires
 check-room-requires c κs =
-    let p = c .before .before .before .before .before .before .before .before .before .before .before .before .before .before in
+    let p = c .before .before .before .before .before .before .before .before .before .before .before .before .before .before .before in
     terms-few (p .pre) (c .count-sounds .ensures)
 
 enum-known-x : tie.Need-enum-known-x
@@ -152,9 +152,19 @@ slice-aggregate-store-8 c =
     let k = c .before .before .before .before .before .before .before .before .before .before in
     sym (length-take-le _ _ (omega (arith, totals (k .before .before) .positions, enough k .positions)))
 
+slice-relend-prefix-store-9 : tie.Need-slice-relend-prefix-store-9
+slice-relend-prefix-store-9 c =
+    let k = c .before .before .before .before .before .before .before .before .before .before in
+    omega (arith, totals (k .before .before) .velocities, enough k .velocities)
+
+slice-aggregate-store-9 : tie.Need-slice-aggregate-store-9
+slice-aggregate-store-9 c =
+    let k = c .before .before .before .before .before .before .before .before .before .before .before in
+    sym (length-take-le _ _ (omega (arith, totals (k .before .before) .velocities, enough k .velocities)))
+
 store-requires : tie.Need-store-requires
 store-requires c κs =
-    let k = c .before .before .before .before .before .before .before .before .before .before in
+    let k = c .before .before .before .before .before .before .before .before .before .before .before in
     let r = k .before .before in
     store-fits (entry r .pre) (r .before .before .before .before .begin .ensures .starts) (r .before .before .begin2 .ensures .starts)
     (cut (found r) (all r) (room r) (totals r) (enough k))
@@ -188,11 +198,14 @@ same-length-7 c = search needs
 same-length-8 : tie.Need-same-length-8
 same-length-8 c = search needs
 
+same-length-9 : tie.Need-same-length-9
+same-length-9 c = search needs
+
 returns-2 : tie.Need-returns-2
 returns-2 c =
-    let stored = c .before .before .before .before .before .before .before .before in
-    let s = stored .before .before .before .before .before .before .before .before in
-    let k = s .before .before .before .before .before .before .before .before .before .before .before in
+    let stored = c .before .before .before .before .before .before .before .before .before in
+    let s = stored .before .before .before .before .before .before .before .before .before in
+    let k = s .before .before .before .before .before .before .before .before .before .before .before .before in
     let r = k .before .before in
     events-stored _ _ (room r) (found r) (entry r .pre .readable .hits-read) (totals r) (passed k) _ (s .store .ensures)
 
@@ -223,6 +236,8 @@ import-counted-spec =
     slice-aggregate-store-7
     slice-relend-prefix-store-8
     slice-aggregate-store-8
+    slice-relend-prefix-store-9
+    slice-aggregate-store-9
     store-requires
     returns
     same-length
@@ -233,4 +248,5 @@ import-counted-spec =
     same-length-6
     same-length-7
     same-length-8
+    same-length-9
     returns-2)

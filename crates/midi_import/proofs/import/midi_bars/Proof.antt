@@ -15,7 +15,7 @@ enum-known-ticks c = search needs
 
 import-events-requires : tie.Need-import-events-requires
 import-events-requires c κs =
-    let t = c .before .before .before .before .before .before .before .before .before in
+    let t = c .before .before .before .before .before .before .before .before .before .before in
     chunked-so 16 4 _ (t .before .before .read-chunks .ensures) (t .ticks .given .1) (omega arith) (omega arith)
 
 returns : tie.Need-returns
@@ -45,11 +45,14 @@ same-length-7 c = search needs
 same-length-8 : tie.Need-same-length-8
 same-length-8 c = search needs
 
+same-length-9 : tie.Need-same-length-9
+same-length-9 c = search needs
+
 returns-2 : tie.Need-returns-2
 returns-2 c =
-    let imported = c .before .before .before .before .before .before .before .before in
-    let e = imported .before .before .before .before .before .before .before .before in
-    let t = e .before .before .before .before .before .before .before .before .before .before in
+    let imported = c .before .before .before .before .before .before .before .before .before in
+    let e = imported .before .before .before .before .before .before .before .before .before in
+    let t = e .before .before .before .before .before .before .before .before .before .before .before in
     bars-imported 16 4 _ _ (t .before .before .read-chunks .ensures) (t .ticks .given .1) (e .import-events .ensures)
 
 pub midi-bars-spec : {M : Type 1} → statement M
@@ -69,4 +72,5 @@ midi-bars-spec =
     same-length-6
     same-length-7
     same-length-8
+    same-length-9
     returns-2)

@@ -6,13 +6,13 @@ use Rattle.midi_import.proofs.store.store.Tie as tie
 
 put-heads-requires : tie.Need-put-heads-requires
 put-heads-requires c κs =
-    let p = c .before .before .before .before .before .before .before .before .before .before .before .before .before .before in
+    let p = c .before .before .before .before .before .before .before .before .before .before .before .before .before .before .before in
     heads-fit (p .pre)
 
 fill-lists-requires : tie.Need-fill-lists-requires
 fill-lists-requires c κs =
-    let put = c .before .before .before .before .before .before .before .before .before .before .before .before .before in
-    let p = put .before .before .before .before .before .before .before .before .before .before .before .before .before .before .before in
+    let put = c .before .before .before .before .before .before .before .before .before .before .before .before .before .before in
+    let p = put .before .before .before .before .before .before .before .before .before .before .before .before .before .before .before .before in
     fill-fits (p .pre)
 
 same-length : tie.Need-same-length
@@ -39,11 +39,14 @@ same-length-7 c = search needs
 same-length-8 : tie.Need-same-length-8
 same-length-8 c = search needs
 
+same-length-9 : tie.Need-same-length-9
+same-length-9 c = search needs
+
 returns : tie.Need-returns
 returns c =
-    let f = c .before .before .before .before .before .before in
-    let p = f .before .before .before .before .before .before .before .before .before .before .before .before .before .before in
-    let q = p .before .before .before .before .before .before .before .before .before .before .before .before .before .before .before in
+    let f = c .before .before .before .before .before .before .before .before in
+    let p = f .before .before .before .before .before .before .before .before .before .before .before .before .before .before .before in
+    let q = p .before .before .before .before .before .before .before .before .before .before .before .before .before .before .before .before in
     store-done _ (q .pre) (p .put-heads .ensures) (f .fill-lists .ensures)
 
 pub store-spec : {M : Type 1} → statement M
@@ -60,4 +63,5 @@ store-spec =
     same-length-6
     same-length-7
     same-length-8
+    same-length-9
     returns)
