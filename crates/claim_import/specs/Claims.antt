@@ -3,7 +3,7 @@ use Prim.Native.Nat.{ℕ, _+_, _*_, _≤_, _<_}
 use mathlib.Core.Path.{_≡_}
 use mathlib.Core.List.{List}
 use mathlib.Core.Logic.{_↔_}
-use lib.ListN.{length}
+use lib.ListN.{length, take}
 use Rattle.common.specs.Elements.{_∈_}
 use Rattle.rules.specs.declared.rule.Rule.the-variants.{Phrase}
 use Rattle.rules.specs.Words.{Has-phrase}
@@ -14,7 +14,9 @@ use Rattle.midi_read.specs.declared.track.Hit.{Hit}
 use Rattle.midi_read.specs.Tracks.{Within-rules}
 use Rattle.midi_bars.specs.Bars.{name-of}
 use Rattle.midi_bars.specs.Words.{Plays, Plays-phrase}
+use Rattle.midi_bars.specs.Loudness.{All-lists, beside}
 use Rattle.midi_bars.specs.Claims.{Holds-file}
+use Rattle.midi_bars.specs.Loud.{Holds-loudness}
 use Rattle.claim_joint.specs.Own.{own}
 use Rattle.claim_joint.specs.Demand.{Those-that-meet}
 use Rattle.midi_import.specs.Promise.{Bars-imported}
@@ -42,9 +44,18 @@ Bars-agree =
     → length (l .ids) ≡ length (l .lengths) → (names : List (List ℕ)) → 1 ≤ length names → (ids : List ℕ)
     → Those-that-meet l Phrase names ids ↔ Bars-that-play steps quarter file hs names ids
 
--- the lists that the call fills, the fronts of the eight buffers, hold exactly what the file plays, and the writer, given room, accepts them
+-- the lists that the call fills, the fronts of the first eight buffers, hold exactly what the file plays, and the writer, given room,
+-- accepts them
 abbrev pub Fronts-held : Type 0
 Fronts-held =
-    (steps quarter : ℕ) (file : List ℕ) (b b′ : Lists) (t : ListTotals) → 1 ≤ steps
+    (steps quarter : ℕ) (file : List ℕ) (b b′ : All-lists) (t : ListTotals) → 1 ≤ steps
     → Bars-imported steps quarter file b (imported.Totals t) b′
-    → (hs : List Hit) × Within-rules steps quarter file hs × Holds-file steps quarter file hs (fronts t b′)
+    → (hs : List Hit) × Within-rules steps quarter file hs × Holds-file steps quarter file hs (fronts t (b′ .lists))
+
+-- and beside their positions, at the front of the ninth, how loud they are
+abbrev pub Fronts-loud : Type 0
+Fronts-loud =
+    (steps quarter : ℕ) (file : List ℕ) (b b′ : All-lists) (t : ListTotals) → 1 ≤ steps
+    → Bars-imported steps quarter file b (imported.Totals t) b′
+    → (hs : List Hit) × Within-rules steps quarter file hs
+    × Holds-loudness steps quarter file hs (beside (fronts t (b′ .lists)) (take (t .positions) (b′ .velocities)))

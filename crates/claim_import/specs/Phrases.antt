@@ -11,10 +11,10 @@ use Rattle.segment.specs.Texts.{names}
 use Rattle.segment.specs.declared.replies.Counted.the-variants as counted
 use Rattle.segment.specs.declared.replies.ListTotals.{ListTotals}
 use Rattle.rules.specs.declared.rule.Rule.the-variants.{Phrase}
-use Rattle.calls.specs.Given.{Lists}
 use Rattle.calls.specs.Sizes.{segment-size}
 use Rattle.midi_read.specs.declared.track.Hit.{Hit}
-use Rattle.midi_bars.specs.Imports.{import-file, roomy-all}
+use Rattle.midi_bars.specs.Loudness.{All-lists}
+use Rattle.midi_bars.specs.Imports.{import-all, roomy-beside}
 use Rattle.midi_read.specs.Tracks.{Within-rules}
 use Rattle.midi_bars.specs.Words.{Plays-phrase}
 use Rattle.claim_joint.specs.declared.ask.Asked.{Asked}
@@ -29,12 +29,12 @@ pub record Bars-that-play (steps quarter : ℕ) (file : List ℕ) (hs : List Hit
   pub every : (bar : ℕ) → Plays-phrase steps quarter file hs bar names → bar ∈ ids
   pub rising : Rising ids
 
--- nothing is refused: the file is read into `l`, which fits the eight lent buffers `b`, its segment fits `out`, and the phrase is
+-- nothing is refused: the file is read into `l`, which fits the nine lent buffers `b`, its segment fits `out`, and the phrase is
 -- well-formed and of a name or more
-pub record Without-refusal (steps quarter : ℕ) (file : List ℕ) (b : Lists) (out name ends : List ℕ) (l : Lists) : Type 0 where
-  pub read : import-file steps quarter file ≡ ok l
-  pub room : roomy-all l b ≡ ok tt
-  pub room-to-write : segment-size l ≤ length out
+pub record Without-refusal (steps quarter : ℕ) (file : List ℕ) (b : All-lists) (out name ends : List ℕ) (l : All-lists) : Type 0 where
+  pub read : import-all steps quarter file ≡ ok l
+  pub room : roomy-beside l b ≡ ok tt
+  pub room-to-write : segment-size (l .lists) ≤ length out
   pub proper : Proper-text Phrase name ends
 
 -- imported, written or not, and asked
@@ -42,11 +42,11 @@ abbrev pub Was-imported : ImportAsked → Type 0
 Was-imported r = (t : ListTotals) × (a : Asked) × (r ≡ reply.Asked t a)
 
 -- the lists of the file, where it is read, fit the buffers
-abbrev pub Room-for-lists : (steps quarter : ℕ) (file : List ℕ) (b : Lists) → Type 0
-Room-for-lists steps quarter file b = (l : Lists) → import-file steps quarter file ≡ ok l → roomy-all l b ≡ ok tt
+abbrev pub Room-for-lists : (steps quarter : ℕ) (file : List ℕ) (b : All-lists) → Type 0
+Room-for-lists steps quarter file b = (l : All-lists) → import-all steps quarter file ≡ ok l → roomy-beside l b ≡ ok tt
 
 -- imported exactly when the file is within document 02's rules and its lists fit
-abbrev pub Imported-exactly : (steps quarter : ℕ) (file : List ℕ) (b : Lists) → ImportAsked → Type 0
+abbrev pub Imported-exactly : (steps quarter : ℕ) (file : List ℕ) (b : All-lists) → ImportAsked → Type 0
 Imported-exactly steps quarter file b r =
     Was-imported r ↔ (((hs : List Hit) × Within-rules steps quarter file hs) × Room-for-lists steps quarter file b)
 
@@ -62,8 +62,8 @@ pub record Bars-listed (steps quarter : ℕ) (file : List ℕ) (hs : List Hit) (
       → Answers r (length ids) × (found′ ≡ ids ++ drop (length ids) found)
 
 -- the claim, of the file's own notes
-abbrev pub Phrase-answered : (steps quarter : ℕ) (file : List ℕ) (b : Lists) (out name ends found : List ℕ)
+abbrev pub Phrase-answered : (steps quarter : ℕ) (file : List ℕ) (b : All-lists) (out name ends found : List ℕ)
     → ImportAsked → (found′ : List ℕ) → Type 0
 Phrase-answered steps quarter file b out name ends found r found′ =
-    (l : Lists) → Without-refusal steps quarter file b out name ends l
+    (l : All-lists) → Without-refusal steps quarter file b out name ends l
     → (hs : List Hit) × Within-rules steps quarter file hs × Bars-listed steps quarter file hs (names 0 ends name) found r found′

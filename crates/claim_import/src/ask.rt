@@ -10,6 +10,7 @@ use segment::replies::ListTotals;
 ghost use denote.Ref.{now};
 ghost use Rattle.common.specs.Slices.{was, left};
 ghost use Rattle.calls.specs.Given.{lists, given-lists, left-lists};
+ghost use Rattle.midi_bars.specs.Loudness.{beside};
 ghost use Rattle.claim_joint.specs.declared.ask.Question.the-variants.{Phrase};
 ghost use Rattle.claim_joint.specs.Promise.{Written-then-asked};
 ghost use Rattle.claim_import.specs.Steps.{fronts, Has-fronts};
@@ -65,7 +66,7 @@ fn ask_fronts(
     )
 }
 
-// Imports a MIDI file into eight lent buffers, writes a segment of what was imported, and asks which bars have a phrase. The names of the
+// Imports a MIDI file into nine lent buffers, writes a segment of what was imported, and asks which bars have a phrase. The names of the
 // phrase are in one text with its ends.
 pub fn import_then_ask(
     file: &[u8],
@@ -77,15 +78,17 @@ pub fn import_then_ask(
     posting_ids: &mut [u32],
     position_counts: &mut [u32],
     positions: &mut [u32],
+    velocities: &mut [u8],
     out: &mut [u8],
     name: &[u8],
     name_ends: &[u32],
     found: &mut [u32],
 ) -> ImportAsked
     ensures { λ r. ⌜ Imported-then-asked 16 4 (was file)
-        (given-lists ids lengths text ends «posting_counts» «posting_ids» «position_counts» positions)
+        (beside (given-lists ids lengths text ends «posting_counts» «posting_ids» «position_counts» positions) (was velocities))
         (was out) (was name) (was «name_ends») (was found) r
-        (left-lists ids lengths text ends «posting_counts» «posting_ids» «position_counts» positions) (left out) (left found) ⌝ }
+        (beside (left-lists ids lengths text ends «posting_counts» «posting_ids» «position_counts» positions) (left velocities))
+        (left out) (left found) ⌝ }
 {
     match midi_bars(
         file,
@@ -97,6 +100,7 @@ pub fn import_then_ask(
         posting_ids,
         position_counts,
         positions,
+        velocities,
     ) {
         Imported::Totals(totals) => {
             let asked = ask_fronts(

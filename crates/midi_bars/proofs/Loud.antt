@@ -17,8 +17,8 @@ use Rattle.common.proofs.Membership.{kept-gives, kept-from, map-gives, at-place
 use Rattle.common.proofs.Kept.{map-same}
 use Rattle.segment.specs.Records.{Given, Term, Posting}
 use Rattle.segment.specs.Results.{Result, ok, refuse, _>>=_}
-use Rattle.segment.proofs.Binds.{bind-gives, ok-same}
-use Rattle.calls.specs.Given.{given, laid-flat}
+use Rattle.segment.proofs.Binds.{bind-gives, ok-same, refuse-ok}
+use Rattle.calls.specs.Given.{Lists, given, laid-flat}
 use Rattle.midi_read.specs.declared.track.Hit.{Hit}
 use Rattle.midi_read.specs.Files.{Grid, grid, step-of, chunks, hits}
 use Rattle.midi_bars.specs.Bars.{greater, name-of, on-position, sounds-of, bars-of, positions-of, posting-of, term-of}
@@ -221,6 +221,18 @@ lists-stayed steps quarter file = step (chunks steps quarter file)
         → eight (r >>= (λ g. hits g file >>= (λ hs. ok (all-of g hs)))) ≡ (r >>= (λ g. hits g file >>= (λ hs. ok (lists-of g hs))))
     step (ok g) = after g (hits g file)
     step (refuse x) = refl
+
+-- read with the velocities, and without
+module _ (steps quarter : ℕ) (file : List ℕ) where
+  pub without : (a : All-lists) → import-all steps quarter file ≡ ok a → import-file steps quarter file ≡ ok (a .lists)
+  without a e = sym (lists-stayed steps quarter file) ∙ ap eight e
+
+  pub with-all : (l : Lists) → import-file steps quarter file ≡ ok l → (a : All-lists) × (import-all steps quarter file ≡ ok a)
+  with-all l e = step (import-all steps quarter file) (lists-stayed steps quarter file ∙ e)
+    where
+      step : (r : Result All-lists) → eight r ≡ ok l → (a : All-lists) × (r ≡ ok a)
+      step (ok a) e = (a, refl)
+      step (refuse x) e = refuse-ok e
 
 held-by : (steps quarter : ℕ) (file : List ℕ) (g : Grid) (hs : List Hit) → chunks steps quarter file ≡ ok g → hits g file ≡ ok hs
     → 1 ≤ steps → Holds-loudness steps quarter file hs (all-of g hs)

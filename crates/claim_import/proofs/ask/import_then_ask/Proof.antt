@@ -10,7 +10,7 @@ use Rattle.claim_import.proofs.ask.import_then_ask.Tie as tie
 
 -- where the first buffer came back, from where the importer's reply is matched
 abbrev first-back : tie.After-slice-known18 → tie.After-ids
-first-back c = c .before .before .before .before .before .before .before .before .before .before .before .before .before .before .before
+first-back c = c .before .before .before .before .before .before .before .before .before .before .before .before .before .before .before .before .before
 
 -- where the importer came back
 abbrev imported : tie.After-slice-known18 → tie.After-midi-bars
@@ -18,11 +18,11 @@ imported c = first-back c .before
 
 -- where the importer's arguments are still to be lent
 abbrev entered : tie.After-midi-bars → tie.After-slice-known10
-entered c = c .before .before .before .before .before .before .before .before .before
+entered c = c .before .before .before .before .before .before .before .before .before .before
 
 -- where the call begins
 abbrev start : tie.After-midi-bars → tie.Start
-start c = entered c .before .before .before .before .before .before .before .before .before .before .before .before .before
+start c = entered c .before .before .before .before .before .before .before .before .before .before .before .before .before .before
 
 -- where the totals are known, from where the arguments of ask_fronts are ready
 abbrev matched : tie.After-ask-fronts-arg10 → tie.After-totals
@@ -78,6 +78,9 @@ same-length-9 c = search needs
 same-length-10 : tie.Need-same-length-10
 same-length-10 c = search needs
 
+same-length-11 : tie.Need-same-length-11
+same-length-11 c = search needs
+
 returns : tie.Need-returns
 returns c =
     let q = c .before .before .before .before in
@@ -86,9 +89,6 @@ returns c =
     let a = start i .args in
     asked-promise _ _ _ _ a-step (i .midi-bars .ensures) (now (a .out)) (now (a .name)) (now (a .name-ends)) (now (a .found))
     (m .totals .given .1) (q .ask-fronts .ensures)
-
-same-length-11 : tie.Need-same-length-11
-same-length-11 c = search needs
 
 same-length-12 : tie.Need-same-length-12
 same-length-12 c = search needs
@@ -110,6 +110,12 @@ same-length-17 c = search needs
 
 same-length-18 : tie.Need-same-length-18
 same-length-18 c = search needs
+
+same-length-19 : tie.Need-same-length-19
+same-length-19 c = search needs
+
+same-length-20 : tie.Need-same-length-20
+same-length-20 c = search needs
 
 returns-2 : tie.Need-returns-2
 returns-2 c =
@@ -137,8 +143,8 @@ import-then-ask-spec =
     same-length-8
     same-length-9
     same-length-10
-    returns
     same-length-11
+    returns
     same-length-12
     same-length-13
     same-length-14
@@ -146,4 +152,6 @@ import-then-ask-spec =
     same-length-16
     same-length-17
     same-length-18
+    same-length-19
+    same-length-20
     returns-2)
