@@ -20,6 +20,7 @@ pub mod Lists
 pub mod Looked-up
 pub mod Midi-asked
 pub mod Midi-bars
+pub mod Midi-loud
 pub mod Midi-ends
 pub mod Midi-events
 pub mod Midi-files

@@ -1,10 +1,11 @@
--- What the hits of a MIDI file are read into, and the eight lent buffers.
+-- What the hits of a MIDI file are read into, and the nine lent buffers.
 use Prim.Native.Nat.{ℕ}
 use mathlib.Core.Path.{_≡_, refl}
 use mathlib.Core.List.{List, [], _∷_, _++_, map}
 use Rattle.segment.specs.Results.{ok}
 use Rattle.segment.specs.declared.replies.Imported.the-variants as imported
 use Rattle.calls.specs.Given.{lists}
+use Rattle.midi_bars.specs.Loudness.{beside}
 use Rattle.cases.specs.Through.{importing}
 use Rattle.cases.specs.Sealing.{refused}
 use Rattle.cases.specs.Midi-made.{tune, end, taken, room, into, Answered, totals}
@@ -95,62 +96,66 @@ silence : taken (tune 4 (0x20 ∷ 0x90 ∷ 0x24 ∷ 0x00 ∷ end)) ≡ ok (lists
 unfolding importing
 silence = refl
 
--- ---- 13, last: bar ids, lengths, name text, ends, postings per sound, posting ids, position counts, positions
+-- ---- 13, last: bar ids, lengths, name text, ends, postings per sound, posting ids, position counts, positions, velocities
 
 -- in this order: each one place short, with no place in those behind it. Fails: another order, the sum of what is missing
 short-in-order :
     map (λ r. into r groove)
-    (room 1 0 0 0 0 0 0 0 ∷ room 2 1 0 0 0 0 0 0 ∷ room 2 2 11 0 0 0 0 0 ∷ room 2 2 12 2 0 0 0 0 ∷ room 2 2 12 3 2 0 0 0
-    ∷ room 2 2 12 3 3 3 0 0 ∷ room 2 2 12 3 3 4 3 0 ∷ room 2 2 12 3 3 4 4 5 ∷ [])
+    (room 1 0 0 0 0 0 0 0 0 ∷ room 2 1 0 0 0 0 0 0 0 ∷ room 2 2 11 0 0 0 0 0 0 ∷ room 2 2 12 2 0 0 0 0 0 ∷ room 2 2 12 3 2 0 0 0 0
+    ∷ room 2 2 12 3 3 3 0 0 0 ∷ room 2 2 12 3 3 4 3 0 0 ∷ room 2 2 12 3 3 4 4 5 0 ∷ room 2 2 12 3 3 4 4 6 5 ∷ [])
     ≡ refused 13 1 2 ∷ refused 13 2 2 ∷ refused 13 3 12 ∷ refused 13 4 3 ∷ refused 13 5 3 ∷ refused 13 6 4 ∷ refused 13 7 4 ∷ refused 13 8 6
-    ∷ []
+    ∷ refused 13 9 6 ∷ []
 unfolding importing
 short-in-order = refl
 
 -- one alone is short, and the others are long. Fails: a buffer not tested
 one-short :
     map (λ r. into r equal-hits)
-    (room 2 9 9 9 9 9 9 9 ∷ room 9 2 9 9 9 9 9 9 ∷ room 9 9 7 9 9 9 9 9 ∷ room 9 9 9 1 9 9 9 9 ∷ room 9 9 9 9 1 9 9 9
-    ∷ room 9 9 9 9 9 2 9 9 ∷ room 9 9 9 9 9 9 2 9 ∷ room 9 9 9 9 9 9 9 2 ∷ [])
+    (room 2 9 9 9 9 9 9 9 9 ∷ room 9 2 9 9 9 9 9 9 9 ∷ room 9 9 7 9 9 9 9 9 9 ∷ room 9 9 9 1 9 9 9 9 9 ∷ room 9 9 9 9 1 9 9 9 9
+    ∷ room 9 9 9 9 9 2 9 9 9 ∷ room 9 9 9 9 9 9 2 9 9 ∷ room 9 9 9 9 9 9 9 2 9 ∷ room 9 9 9 9 9 9 9 9 2 ∷ [])
     ≡ refused 13 1 3 ∷ refused 13 2 3 ∷ refused 13 3 8 ∷ refused 13 4 2 ∷ refused 13 5 2 ∷ refused 13 6 3 ∷ refused 13 7 3 ∷ refused 13 8 3
-    ∷ []
+    ∷ refused 13 9 3 ∷ []
 unfolding importing
 one-short = refl
 
 -- the whole length needed of equal hits is one. Fails: a place for each hit
-short-of-one : into (room 1 1 4 1 1 1 1 0) (tune 4 (0x00 ∷ 0x90 ∷ 0x24 ∷ 0x64 ∷ 0x00 ∷ 0x24 ∷ 0x64 ∷ end)) ≡ refused 13 8 1
+short-of-one :
+    map (λ r. into r (tune 4 (0x00 ∷ 0x90 ∷ 0x24 ∷ 0x64 ∷ 0x00 ∷ 0x24 ∷ 0x64 ∷ end)))
+    (room 1 1 4 1 1 1 1 0 1 ∷ room 1 1 4 1 1 1 1 1 0 ∷ [])
+    ≡ refused 13 8 1 ∷ refused 13 9 1 ∷ []
 unfolding importing
 short-of-one = refl
 
 -- ---- the buffers afterwards
 
 -- the lists in front, and what stood behind. Fails: a tail cleared, lists at the ends
-tails-kept : Answered equal-hits (room 4 3 9 3 2 4 3 5) (totals 3 2 3 3)
-    (lists (0 ∷ 1 ∷ 2 ∷ 90 ∷ []) (16 ∷ 16 ∷ 16 ∷ []) (n036 ++ n038 ++ 92 ∷ []) (4 ∷ 8 ∷ 93 ∷ []) (1 ∷ 2 ∷ []) (0 ∷ 0 ∷ 2 ∷ 95 ∷ [])
-    (1 ∷ 1 ∷ 1 ∷ []) (0 ∷ 0 ∷ 3 ∷ 97 ∷ 97 ∷ []))
+tails-kept : Answered equal-hits (room 4 3 9 3 2 4 3 5 3) (totals 3 2 3 3)
+    (beside (lists (0 ∷ 1 ∷ 2 ∷ 90 ∷ []) (16 ∷ 16 ∷ 16 ∷ []) (n036 ++ n038 ++ 92 ∷ []) (4 ∷ 8 ∷ 93 ∷ []) (1 ∷ 2 ∷ []) (0 ∷ 0 ∷ 2 ∷ 95 ∷ [])
+    (1 ∷ 1 ∷ 1 ∷ []) (0 ∷ 0 ∷ 3 ∷ 97 ∷ 97 ∷ [])) (64 ∷ 80 ∷ 1 ∷ []))
 unfolding importing
 tails-kept = record { reply = refl; left = refl }
 
--- the other four tails. Fails: a tail cleared
-other-tails-kept : Answered equal-hits (room 3 5 8 2 3 3 4 3) (totals 3 2 3 3)
-    (lists (0 ∷ 1 ∷ 2 ∷ []) (16 ∷ 16 ∷ 16 ∷ 91 ∷ 91 ∷ []) (n036 ++ n038) (4 ∷ 8 ∷ []) (1 ∷ 2 ∷ 94 ∷ []) (0 ∷ 0 ∷ 2 ∷ [])
-    (1 ∷ 1 ∷ 1 ∷ 96 ∷ []) (0 ∷ 0 ∷ 3 ∷ []))
+-- the other five tails. Fails: a tail cleared
+other-tails-kept : Answered equal-hits (room 3 5 8 2 3 3 4 3 5) (totals 3 2 3 3)
+    (beside (lists (0 ∷ 1 ∷ 2 ∷ []) (16 ∷ 16 ∷ 16 ∷ 91 ∷ 91 ∷ []) (n036 ++ n038) (4 ∷ 8 ∷ []) (1 ∷ 2 ∷ 94 ∷ []) (0 ∷ 0 ∷ 2 ∷ [])
+    (1 ∷ 1 ∷ 1 ∷ 96 ∷ []) (0 ∷ 0 ∷ 3 ∷ [])) (64 ∷ 80 ∷ 1 ∷ 98 ∷ 98 ∷ []))
 unfolding importing
 other-tails-kept = record { reply = refl; left = refl }
 
--- a refusal leaves all eight: 13 of the last. Fails: the first seven filled
-left-by-13 : Answered groove (room 2 2 12 3 3 4 4 5) (imported.Refused (record { kind = 13; which = 8; index = 6 })) (room 2 2 12 3 3 4 4 5)
+-- a refusal leaves all nine: 13 of the last. Fails: the first eight filled
+left-by-13 : Answered groove (room 2 2 12 3 3 4 4 6 5) (imported.Refused (record { kind = 13; which = 9; index = 6 }))
+    (room 2 2 12 3 3 4 4 6 5)
 unfolding importing
 left-by-13 = record { reply = refl; left = refl }
 
 -- 14 of the last byte, with room for all. Fails: hits stored as they are read
-left-by-14 : Answered (tune 4 (0x00 ∷ 0x90 ∷ 0x24 ∷ 0x64 ∷ end ++ 0x00 ∷ [])) (room 9 9 9 9 9 9 9 9)
-    (imported.Refused (record { kind = 14; which = 0; index = 30 })) (room 9 9 9 9 9 9 9 9)
+left-by-14 : Answered (tune 4 (0x00 ∷ 0x90 ∷ 0x24 ∷ 0x64 ∷ end ++ 0x00 ∷ [])) (room 9 9 9 9 9 9 9 9 9)
+    (imported.Refused (record { kind = 14; which = 0; index = 30 })) (room 9 9 9 9 9 9 9 9 9)
 unfolding importing
 left-by-14 = record { reply = refl; left = refl }
 
 -- 15 of the last hit. Fails: the first hit's bar made
-left-by-15 : Answered (tune 4 (0x00 ∷ 0x90 ∷ 0x24 ∷ 0x64 ∷ 0xC0 ∷ 0x80 ∷ 0x00 ∷ 0x24 ∷ 0x64 ∷ end)) (room 9 9 9 9 9 9 9 9)
-    (imported.Refused (record { kind = 15; which = 0; index = 0 })) (room 9 9 9 9 9 9 9 9)
+left-by-15 : Answered (tune 4 (0x00 ∷ 0x90 ∷ 0x24 ∷ 0x64 ∷ 0xC0 ∷ 0x80 ∷ 0x00 ∷ 0x24 ∷ 0x64 ∷ end)) (room 9 9 9 9 9 9 9 9 9)
+    (imported.Refused (record { kind = 15; which = 0; index = 0 })) (room 9 9 9 9 9 9 9 9 9)
 unfolding importing
 left-by-15 = record { reply = refl; left = refl }

@@ -5,12 +5,12 @@ use mathlib.Core.List.{List, [], _∷_, _++_, map}
 use lib.ListN.{replicate}
 use Rattle.common.specs.Lists.{joined}
 use Rattle.segment.specs.Results.{Result, ok, _>>=_}
-use Rattle.calls.specs.Given.{Lists}
+use Rattle.midi_bars.specs.Loudness.{All-lists}
 use Rattle.cases.specs.Through.{hearing, importing}
 use Rattle.cases.specs.Sealing.{refused}
 use Rattle.cases.specs.Midi-made.{tune, end, taken, put, heard}
 
-abbrev ended : (track : List ℕ) → Result Lists
+abbrev ended : (track : List ℕ) → Result All-lists
 ended track = put (tune 4 track)
 
 -- where the hits are: posting ids, then positions

@@ -4,9 +4,10 @@ use mathlib.Core.Path.{_≡_, refl}
 use mathlib.Core.List.{List, [], _∷_, _++_}
 use Rattle.segment.specs.Results.{ok}
 use Rattle.calls.specs.Given.{Lists, lists}
+use Rattle.midi_bars.specs.Loudness.{beside}
 use Rattle.cases.specs.Through.{importing}
 use Rattle.cases.specs.Sealing.{refused}
-use Rattle.cases.specs.Midi-made.{taken, room, into, Answered, totals, put}
+use Rattle.cases.specs.Midi-made.{taken, room, no-lists, into, Answered, totals, put}
 
 -- the bytes of the names
 abbrev pub n036 : List ℕ
@@ -46,13 +47,15 @@ groove-taken : taken groove ≡ ok groove-lists
 unfolding importing
 groove-taken = refl
 
--- bars, sounds, postings, positions, with every buffer exactly full. Fails: hits for positions, 13 while places suffice
-groove-answered : Answered groove (room 2 2 12 3 3 4 4 6) (totals 2 3 4 6) groove-lists
+-- bars, sounds, postings, positions, with every buffer exactly full. Fails: hits for positions, 13 while places suffice; velocities in
+-- file order, 100 80 110 90 40 127
+groove-answered : Answered groove (room 2 2 12 3 3 4 4 6 6) (totals 2 3 4 6)
+    (beside groove-lists (100 ∷ 90 ∷ 127 ∷ 110 ∷ 40 ∷ 80 ∷ []))
 unfolding importing
 groove-answered = record { reply = refl; left = refl }
 
 -- one posting count short. Fails: index the room, which buffer from 0
-groove-short : into (room 2 2 12 3 2 4 4 6) groove ≡ refused 13 5 3
+groove-short : into (room 2 2 12 3 2 4 4 6 6) groove ≡ refused 13 5 3
 unfolding importing
 groove-short = refl
 
@@ -81,8 +84,8 @@ equal-hits-taken : taken equal-hits ≡ ok equal-hits-lists
 unfolding importing
 equal-hits-taken = refl
 
--- Fails: hits counted, five
-equal-hits-answered : Answered equal-hits (room 3 3 8 2 2 3 3 3) (totals 3 2 3 3) equal-hits-lists
+-- n038 on step 0 with 20, 80 and 50. Fails: hits counted, five; the first of them kept, the last, the quietest, their sum
+equal-hits-answered : Answered equal-hits (room 3 3 8 2 2 3 3 3 3) (totals 3 2 3 3) (beside equal-hits-lists (64 ∷ 80 ∷ 1 ∷ []))
 unfolding importing
 equal-hits-answered = record { reply = refl; left = refl }
 
@@ -193,6 +196,6 @@ no-hits =
     ∷ []
 
 -- no bars, no sounds, and nothing need be lent. Fails: a bar 0, 13
-no-hits-answered : Answered no-hits (room 0 0 0 0 0 0 0 0) (totals 0 0 0 0) (lists [] [] [] [] [] [] [] [])
+no-hits-answered : Answered no-hits (room 0 0 0 0 0 0 0 0 0) (totals 0 0 0 0) no-lists
 unfolding importing
 no-hits-answered = record { reply = refl; left = refl }

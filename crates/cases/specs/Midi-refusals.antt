@@ -5,17 +5,17 @@ use mathlib.Core.Path.{_≡_, refl}
 use mathlib.Core.List.{List, [], _∷_, _++_, map}
 use lib.ListN.{length, replicate, take, set}
 use Rattle.segment.specs.Results.{Result, ok}
-use Rattle.calls.specs.Given.{Lists, lists}
+use Rattle.midi_bars.specs.Loudness.{All-lists}
 use Rattle.midi_read.specs.Files.{chunks}
 use Rattle.cases.specs.Through.{heading-read, importing}
 use Rattle.cases.specs.Sealing.{refused}
-use Rattle.cases.specs.Midi-made.{header, heading, tune, end, put}
+use Rattle.cases.specs.Midi-made.{header, heading, tune, end, no-lists, put}
 
 -- a file without hits that is read: 26 bytes
 abbrev fine : List ℕ
 fine = tune 96 end
 
-fine-read : put fine ≡ ok (lists [] [] [] [] [] [] [] [])
+fine-read : put fine ≡ ok no-lists
 unfolding importing
 fine-read = refl
 
@@ -75,7 +75,7 @@ tracks-2 = refl
 
 -- ---- the division: 4 to 32,764, a multiple of 4
 
-abbrev divided : (division : ℕ) → Result Lists
+abbrev divided : (division : ℕ) → Result All-lists
 divided division = put (tune division end)
 
 -- Fails: 0 taken, with which a step has no ticks; numbers that are no multiple of 4 rounded; 32,767 as the largest
@@ -89,7 +89,7 @@ unfolding importing
 frames-refused = refl
 
 -- Fails: both ends refused, little-endian
-divisions-taken : map divided (4 ∷ 8 ∷ 96 ∷ 480 ∷ 1024 ∷ 32764 ∷ []) ≡ replicate 6 (ok (lists [] [] [] [] [] [] [] []))
+divisions-taken : map divided (4 ∷ 8 ∷ 96 ∷ 480 ∷ 1024 ∷ 32764 ∷ []) ≡ replicate 6 (ok no-lists)
 unfolding importing
 divisions-taken = refl
 
@@ -142,7 +142,7 @@ other-chunk-behind = refl
 
 -- a length of two bytes: a text of 256 bytes, and 5 and 4 bytes around it. Fails: little-endian, one byte
 length-256 : put (header 96 ++ heading 0x0109 ++ 0x00 ∷ 0xFF ∷ 0x01 ∷ 0x82 ∷ 0x00 ∷ replicate 256 0x41 ++ end)
-    ≡ ok (lists [] [] [] [] [] [] [] [])
+    ≡ ok no-lists
 unfolding importing
 length-256 = refl
 

@@ -36,7 +36,8 @@ use Rattle.calls.specs.Ranked.{ranked-answer, ranked-answers, search-ranked}
 use Rattle.midi_read.specs.Files as midi
 use Rattle.midi_bars.specs.Bars.{rising-from, bar-count, sounds-of, bars-of, given-of, lists-of}
 use Rattle.midi_bars.specs.Bars as bars
-use Rattle.midi_bars.specs.Imports.{import-file, import-into, roomy-all}
+use Rattle.midi_bars.specs.Loudness.{greatest, velocities-of}
+use Rattle.midi_bars.specs.Imports.{import-file, import-all, import-into, roomy-all, roomy-beside}
 use Rattle.length_lookup.specs.Lookup.{check-ids, check-ids-and-lengths, looked-up}
 use Rattle.pad_map.specs.Bars.{lookup, insert, without}
 use Rattle.pad_map.specs.Rules.{before, hit-fine, hits-fine, all-up-to, hits-rise, all-below, check-hits}
@@ -127,7 +128,7 @@ unfolding listing-lines decoding decode-all positions-of some-of sheet-into bar-
 sheet-lines = tt
 
 unfoldable pub heading-read : Unit {0}
-unfolding same midi.header midi.heading midi.chunks import-file import-into
+unfolding same midi.header midi.heading midi.chunks import-file import-all import-into
 heading-read = tt
 
 unfoldable pub hearing : Unit {0}
@@ -135,7 +136,8 @@ unfolding heading-read midi.number-from midi.message midi.skipped midi.meta midi
 hearing = tt
 
 unfoldable pub importing : Unit {0}
-unfolding hearing some-of kept rising-from bar-count sounds-of bars-of bars.positions-of given-of lists-of laid-flat roomy-all
+unfolding hearing some-of kept rising-from bar-count sounds-of bars-of bars.positions-of given-of lists-of laid-flat roomy-all greatest velocities-of
+    roomy-beside
 importing = tt
 
 unfoldable pub looking-up : Unit {0}

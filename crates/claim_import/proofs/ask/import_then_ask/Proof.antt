@@ -8,16 +8,19 @@ use Rattle.claim_import.proofs.Told.{fronts-there, asked-promise, refus
 use Rattle.claim_import.proofs.ask.import_then_ask.Statement.{statement}
 use Rattle.claim_import.proofs.ask.import_then_ask.Tie as tie
 
--- where the first buffer came back, from where the importer's reply is matched
-abbrev first-back : tie.After-slice-known18 → tie.After-ids
+-- where the first buffer came back, and the second, from where the importer's reply is matched
+abbrev first-back : tie.After-slice-known20 → tie.After-ids
 first-back c = c .before .before .before .before .before .before .before .before .before .before .before .before .before .before .before .before .before
 
+abbrev second-back : tie.After-slice-known20 → tie.After-lengths
+second-back c = c .before .before .before .before .before .before .before .before .before .before .before .before .before .before .before
+
 -- where the importer came back
-abbrev imported : tie.After-slice-known18 → tie.After-midi-bars
+abbrev imported : tie.After-slice-known20 → tie.After-midi-bars
 imported c = first-back c .before
 
 -- where the importer's arguments are still to be lent
-abbrev entered : tie.After-midi-bars → tie.After-slice-known10
+abbrev entered : tie.After-midi-bars → tie.After-slice-known11
 entered c = c .before .before .before .before .before .before .before .before .before .before
 
 -- where the call begins
@@ -52,7 +55,9 @@ same-length c =
     first-back (matched (q .before) .before .before) .ids .given
 
 same-length-2 : tie.Need-same-length-2
-same-length-2 c = search needs
+same-length-2 c =
+    let q = c .before .before .before .before in
+    second-back (matched (q .before) .before .before) .lengths .given
 
 same-length-3 : tie.Need-same-length-3
 same-length-3 c = search needs
