@@ -101,6 +101,8 @@ pub fn run(case: &[u8; 4096]) -> Outcome {
     let mut posting_ids = [0u32; 64];
     let mut position_counts = [0u32; 64];
     let mut positions = [0u32; 64];
+    // The cases have no velocities: lent whole, and not compared.
+    let mut velocities = [0u8; 64];
     let reply = pstp_midi_bars(
         file_of(case),
         lent(case, IDS, &mut ids),
@@ -111,6 +113,7 @@ pub fn run(case: &[u8; 4096]) -> Outcome {
         lent(case, POSTING_IDS, &mut posting_ids),
         lent(case, POSITION_COUNTS, &mut position_counts),
         lent(case, POSITIONS, &mut positions),
+        &mut velocities,
     );
     Outcome {
         kind: reply.kind,
