@@ -33,6 +33,7 @@ pub mod Pad-counter
 pub mod Pad-full
 pub mod Pad-recorded
 pub mod Pad-refusals
+pub mod Pad-velocities
 pub mod Pad-written
 pub mod Question-order
 pub mod Ranked

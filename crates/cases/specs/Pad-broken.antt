@@ -1,4 +1,5 @@
--- Kind 20 (document 02, wish 6), before all else: which words are a pad, and the map that these hold.
+-- Kind 20 (document 02, wish 6), before all else: which words are a pad, and the map that these hold. The hits by digits have
+-- velocity 1, so that a first word is 256 more than its sound; other velocities are in Pad-velocities.antt.
 use Prim.Native.Nat.{ℕ}
 use mathlib.Core.Path.{_≡_, refl}
 use mathlib.Core.Bool.{true, false}
@@ -23,12 +24,12 @@ two-stored pad = refl
 -- ---- a slice of another length
 
 -- Fails: as many words as the bars take
-one-word-less : held-bars (1 ∷ 1 ∷ 1 ∷ 4 ∷ 1 ∷ 5 ∷ 0 ∷ replicate 17146 0) ≡ refused 20 0 0
+one-word-less : held-bars (1 ∷ 1 ∷ 1 ∷ 4 ∷ 1 ∷ 261 ∷ 0 ∷ replicate 17146 0) ≡ refused 20 0 0
 unfolding recording
 one-word-less = refl
 
 -- Fails: words behind the pad's not minded
-one-word-more : held-bars (1 ∷ 1 ∷ 1 ∷ 4 ∷ 1 ∷ 5 ∷ 0 ∷ replicate 17148 0) ≡ refused 20 0 0
+one-word-more : held-bars (1 ∷ 1 ∷ 1 ∷ 4 ∷ 1 ∷ 261 ∷ 0 ∷ replicate 17148 0) ≡ refused 20 0 0
 unfolding recording
 one-word-more = refl
 
@@ -40,56 +41,56 @@ no-words = refl
 -- ---- an id twice, ids that fall
 
 -- bar 3 twice. Fails: the first of the two found
-id-twice : Holds (2 ∷ 2 ∷ 3 ∷ 4 ∷ 1 ∷ 5 ∷ 0 ∷ 3 ∷ 4 ∷ 1 ∷ 6 ∷ 0 ∷ []) (refused 20 0 0)
+id-twice : Holds (2 ∷ 2 ∷ 3 ∷ 4 ∷ 1 ∷ 261 ∷ 0 ∷ 3 ∷ 4 ∷ 1 ∷ 262 ∷ 0 ∷ []) (refused 20 0 0)
 unfolding recording
 id-twice rest n = rw n refl
 
 -- bar 7 before bar 3: no call makes it. Fails: a bar that is not found where it is looked for
-ids-fall : Holds (2 ∷ 2 ∷ 7 ∷ 4 ∷ 1 ∷ 5 ∷ 0 ∷ 3 ∷ 4 ∷ 1 ∷ 6 ∷ 0 ∷ []) (refused 20 0 0)
+ids-fall : Holds (2 ∷ 2 ∷ 7 ∷ 4 ∷ 1 ∷ 261 ∷ 0 ∷ 3 ∷ 4 ∷ 1 ∷ 262 ∷ 0 ∷ []) (refused 20 0 0)
 unfolding recording
 ids-fall rest n = rw n refl
 
 -- ---- a bar whose hits break the rules for saving: the first bar's or the last's
 
 -- sound 128. Fails: sounds not tested, the first hit alone tested
-sound-128 : Holds (1 ∷ 2 ∷ 3 ∷ 4 ∷ 2 ∷ 5 ∷ 0 ∷ 128 ∷ 0 ∷ []) (refused 20 0 0)
+sound-128 : Holds (1 ∷ 2 ∷ 3 ∷ 4 ∷ 2 ∷ 261 ∷ 0 ∷ 384 ∷ 0 ∷ []) (refused 20 0 0)
 unfolding recording
 sound-128 rest n = rw n refl
 
 -- equal hits. Fails: `<=` for `<`
-equal-hits : Holds (1 ∷ 2 ∷ 3 ∷ 4 ∷ 2 ∷ 5 ∷ 1 ∷ 5 ∷ 1 ∷ []) (refused 20 0 0)
+equal-hits : Holds (1 ∷ 2 ∷ 3 ∷ 4 ∷ 2 ∷ 261 ∷ 1 ∷ 261 ∷ 1 ∷ []) (refused 20 0 0)
 unfolding recording
 equal-hits rest n = rw n refl
 
 -- a sound that falls. Fails: the order by step
-sound-falls : Holds (1 ∷ 2 ∷ 3 ∷ 4 ∷ 2 ∷ 6 ∷ 0 ∷ 5 ∷ 1 ∷ []) (refused 20 0 0)
+sound-falls : Holds (1 ∷ 2 ∷ 3 ∷ 4 ∷ 2 ∷ 262 ∷ 0 ∷ 261 ∷ 1 ∷ []) (refused 20 0 0)
 unfolding recording
 sound-falls rest n = rw n refl
 
 -- step 4 of 4 steps, in the second bar. Fails: `<=` for `<`, the first bar alone tested
-step-4 : Holds (2 ∷ 2 ∷ 3 ∷ 4 ∷ 1 ∷ 5 ∷ 0 ∷ 7 ∷ 4 ∷ 1 ∷ 5 ∷ 4 ∷ []) (refused 20 0 0)
+step-4 : Holds (2 ∷ 2 ∷ 3 ∷ 4 ∷ 1 ∷ 261 ∷ 0 ∷ 7 ∷ 4 ∷ 1 ∷ 261 ∷ 4 ∷ []) (refused 20 0 0)
 unfolding recording
 step-4 rest n = rw n refl
 
 -- each bar begins anew: bar 7's first hit need not come behind bar 3's last. Fails: 20
-begins-anew : Holds (2 ∷ 2 ∷ 3 ∷ 4 ∷ 1 ∷ 9 ∷ 3 ∷ 7 ∷ 4 ∷ 1 ∷ 5 ∷ 0 ∷ []) (ok (bar 3 4 (hit 9 3 ∷ []) ∷ bar 7 4 (hit 5 0 ∷ []) ∷ []))
+begins-anew : Holds (2 ∷ 2 ∷ 3 ∷ 4 ∷ 1 ∷ 265 ∷ 3 ∷ 7 ∷ 4 ∷ 1 ∷ 261 ∷ 0 ∷ []) (ok (bar 3 4 (hit 9 3 1 ∷ []) ∷ bar 7 4 (hit 5 0 1 ∷ []) ∷ []))
 unfolding recording
 begins-anew rest n = rw n refl
 
 -- ---- the number of hits
 
 -- one more than the bar has. Fails: hits of no bar's
-hits-of-no-bar : Holds (1 ∷ 2 ∷ 3 ∷ 4 ∷ 1 ∷ 5 ∷ 0 ∷ 5 ∷ 1 ∷ []) (refused 20 0 0)
+hits-of-no-bar : Holds (1 ∷ 2 ∷ 3 ∷ 4 ∷ 1 ∷ 261 ∷ 0 ∷ 261 ∷ 1 ∷ []) (refused 20 0 0)
 unfolding recording
 hits-of-no-bar rest n = rw n refl
 
 -- one fewer. Fails: a hit in a place that the pad does not have
-hit-too-many : Holds (1 ∷ 1 ∷ 3 ∷ 4 ∷ 2 ∷ 5 ∷ 0 ∷ 5 ∷ 1 ∷ []) (refused 20 0 0)
+hit-too-many : Holds (1 ∷ 1 ∷ 3 ∷ 4 ∷ 2 ∷ 261 ∷ 0 ∷ 261 ∷ 1 ∷ []) (refused 20 0 0)
 unfolding recording
 hit-too-many rest n = rw n refl
 
 -- the first bar has them all, the second one more. Fails: each bar's count held against the total
-more-in-the-second : Holds (2 ∷ 2 ∷ 3 ∷ 4 ∷ 2 ∷ 5 ∷ 0 ∷ 5 ∷ 1 ∷ 7 ∷ 4 ∷ 1 ∷ 5 ∷ 0 ∷ []) (refused 20 0 0)
+more-in-the-second : Holds (2 ∷ 2 ∷ 3 ∷ 4 ∷ 2 ∷ 261 ∷ 0 ∷ 261 ∷ 1 ∷ 7 ∷ 4 ∷ 1 ∷ 261 ∷ 0 ∷ []) (refused 20 0 0)
 unfolding recording
 more-in-the-second rest n = rw n refl
 
@@ -99,7 +100,7 @@ unfolding recording
 hits-without-bars rest n = rw n refl
 
 -- more than the pad has places, in a bar. Fails: words read behind the pad's
-count-9000 : held-bars (1 ∷ 1 ∷ 3 ∷ 4 ∷ 9000 ∷ 5 ∷ 0 ∷ replicate 17147 0) ≡ refused 20 0 0
+count-9000 : held-bars (1 ∷ 1 ∷ 3 ∷ 4 ∷ 9000 ∷ 261 ∷ 0 ∷ replicate 17147 0) ≡ refused 20 0 0
 unfolding recording
 count-9000 = refl
 
@@ -107,7 +108,7 @@ count-9000 = refl
 bar-7-left-out : (rest : List ℕ) → length (pad-of-two rest) ≡ 17154
     → (held-bars (1 ∷ 8 ∷ words-of-3 (words-of-7 rest)) ≡ refused 20 0 0)
     × (held-bars (1 ∷ 5 ∷ words-of-3 (words-of-7 rest))
-    ≡ ok (bar 3 16 (hit 36 0 ∷ hit 36 4 ∷ hit 36 15 ∷ hit 38 8 ∷ hit 38 14 ∷ []) ∷ []))
+    ≡ ok (bar 3 16 (hit 36 0 127 ∷ hit 36 4 1 ∷ hit 36 15 64 ∷ hit 38 8 100 ∷ hit 38 14 2 ∷ []) ∷ []))
 unfolding recording
 bar-7-left-out rest n = (rw n refl, rw n refl)
 
@@ -124,7 +125,7 @@ bars-256 = (refl, refl)
 
 -- one bar with sound 0 on so many steps
 abbrev steps-up-to : ℕ → List Bar
-steps-up-to n = bar 0 n (map (λ t. hit 0 t) (count-up 0 n)) ∷ []
+steps-up-to n = bar 0 n (map (λ t. hit 0 t 127) (count-up 0 n)) ∷ []
 
 -- 8,192 hits are a pad, 8,193 are not. Fails: `<` for `<=`, a limit of 8,193
 hits-8192 : (whole (stored (steps-up-to 8192) empty) ≡ true) × (whole (stored (steps-up-to 8193) empty) ≡ false)
@@ -135,12 +136,13 @@ hits-8192 = (refl, refl)
 
 module _ (rest : List ℕ) (n : length (pad-of-1 rest) ≡ 17154) where
   abbrev broken : List ℕ
-  broken = 1 ∷ 2 ∷ 1 ∷ 4 ∷ 1 ∷ 5 ∷ 0 ∷ rest
+  broken = 1 ∷ 2 ∷ 1 ∷ 4 ∷ 1 ∷ 17925 ∷ 0 ∷ rest
 
-  -- an id that is held, lists that differ. Fails: 18, 11
-  save-first : pad-save broken 1 4 (5 ∷ 6 ∷ []) (0 ∷ []) ≡ refused 20 0 0
+  -- an id that is held, lists that differ; velocity 0. Fails: 18, 11; 22
+  save-first : (pad-save broken 1 4 (5 ∷ 6 ∷ []) (0 ∷ []) (1 ∷ []) ≡ refused 20 0 0)
+      × (pad-save broken 2 4 (5 ∷ []) (0 ∷ []) (0 ∷ []) ≡ refused 20 0 0)
   unfolding recording
-  save-first = rw n refl
+  save-first = (rw n refl, rw n refl)
 
   -- an unknown id, a known one. Fails: 16; the bar erased
   erase-first : (pad-erase broken 2 ≡ refused 20 0 0) × (pad-erase broken 1 ≡ refused 20 0 0)
@@ -148,9 +150,9 @@ module _ (rest : List ℕ) (n : length (pad-of-1 rest) ≡ 17154) where
   erase-first = (rw n refl, rw n refl)
 
   -- an unknown id, no room. Fails: 16, 13; the bar read
-  read-first : (pad-read broken 2 0 0 ≡ refused 20 0 0)
-      × (pad-read broken 1 0 0 ≡ refused 20 0 0)
-      × (pad-read broken 1 9 9 ≡ refused 20 0 0)
+  read-first : (pad-read broken 2 0 0 0 ≡ refused 20 0 0)
+      × (pad-read broken 1 0 0 0 ≡ refused 20 0 0)
+      × (pad-read broken 1 9 9 9 ≡ refused 20 0 0)
   unfolding recording
   read-first = (rw n refl, rw n refl, rw n refl)
 

@@ -21,7 +21,7 @@ of-two-bars rest = refl
 
 -- bar 5 with two hits saved between them. Fails: a save that forgets the total
 saved : (rest : List ℕ) → length (pad-of-two rest) ≡ 17154
-    → pad-hits (saved-words (pad-save (pad-of-two rest) 5 1 (0 ∷ 127 ∷ []) (0 ∷ 0 ∷ [])) (pad-of-two rest)) ≡ 10
+    → pad-hits (saved-words (pad-save (pad-of-two rest) 5 1 (0 ∷ 127 ∷ []) (0 ∷ 0 ∷ []) (1 ∷ 127 ∷ [])) (pad-of-two rest)) ≡ 10
 unfolding recording
 saved rest n = rw n refl
 
@@ -37,12 +37,13 @@ erased-all : (rest : List ℕ) → length (pad-of-1 rest) ≡ 17154
 unfolding recording
 erased-all rest n = rw n refl
 
--- a bar that is held, a bar whose hits fall, one that is not held. Fails: a refused call that counts
+-- a bar that is held, a bar whose hits fall, one with velocity 0, one that is not held. Fails: a refused call that counts
 refused-save : (rest : List ℕ) → length (pad-of-two rest) ≡ 17154
-    → (pad-hits (saved-words (pad-save (pad-of-two rest) 7 4 (0 ∷ []) (0 ∷ [])) (pad-of-two rest)) ≡ 8)
-    × (pad-hits (saved-words (pad-save (pad-of-two rest) 8 4 (1 ∷ 0 ∷ []) (0 ∷ 0 ∷ [])) (pad-of-two rest)) ≡ 8)
+    → (pad-hits (saved-words (pad-save (pad-of-two rest) 7 4 (0 ∷ []) (0 ∷ []) (1 ∷ [])) (pad-of-two rest)) ≡ 8)
+    × (pad-hits (saved-words (pad-save (pad-of-two rest) 8 4 (1 ∷ 0 ∷ []) (0 ∷ 0 ∷ []) (1 ∷ 2 ∷ [])) (pad-of-two rest)) ≡ 8)
+    × (pad-hits (saved-words (pad-save (pad-of-two rest) 8 4 (1 ∷ []) (0 ∷ []) (0 ∷ [])) (pad-of-two rest)) ≡ 8)
 unfolding recording
-refused-save rest n = (rw n refl, rw n refl)
+refused-save rest n = (rw n refl, rw n refl, rw n refl)
 
 refused-erasure : (rest : List ℕ) → length (pad-of-two rest) ≡ 17154
     → pad-hits (erased-words 4 (pad-erase (pad-of-two rest) 4) (pad-of-two rest)) ≡ 8
@@ -52,13 +53,13 @@ refused-erasure rest n = rw n refl
 -- ---- of words that are no pad: the others answer 20, and this call what stands there
 
 -- one bar with one hit, two stored; none stored. Fails: 1, as counted; 20
-one-more : (rest : List ℕ) → length (1 ∷ 2 ∷ 1 ∷ 4 ∷ 1 ∷ 5 ∷ 0 ∷ rest) ≡ 17154
-    → (held-bars (1 ∷ 2 ∷ 1 ∷ 4 ∷ 1 ∷ 5 ∷ 0 ∷ rest) ≡ refused 20 0 0) × (pad-hits (1 ∷ 2 ∷ 1 ∷ 4 ∷ 1 ∷ 5 ∷ 0 ∷ rest) ≡ 2)
+one-more : (rest : List ℕ) → length (1 ∷ 2 ∷ 1 ∷ 4 ∷ 1 ∷ 17925 ∷ 0 ∷ rest) ≡ 17154
+    → (held-bars (1 ∷ 2 ∷ 1 ∷ 4 ∷ 1 ∷ 17925 ∷ 0 ∷ rest) ≡ refused 20 0 0) × (pad-hits (1 ∷ 2 ∷ 1 ∷ 4 ∷ 1 ∷ 17925 ∷ 0 ∷ rest) ≡ 2)
 unfolding recording
 one-more rest n = (rw n refl, refl)
 
-one-fewer : (rest : List ℕ) → length (1 ∷ 0 ∷ 1 ∷ 4 ∷ 1 ∷ 5 ∷ 0 ∷ rest) ≡ 17154
-    → (held-bars (1 ∷ 0 ∷ 1 ∷ 4 ∷ 1 ∷ 5 ∷ 0 ∷ rest) ≡ refused 20 0 0) × (pad-hits (1 ∷ 0 ∷ 1 ∷ 4 ∷ 1 ∷ 5 ∷ 0 ∷ rest) ≡ 0)
+one-fewer : (rest : List ℕ) → length (1 ∷ 0 ∷ 1 ∷ 4 ∷ 1 ∷ 17925 ∷ 0 ∷ rest) ≡ 17154
+    → (held-bars (1 ∷ 0 ∷ 1 ∷ 4 ∷ 1 ∷ 17925 ∷ 0 ∷ rest) ≡ refused 20 0 0) × (pad-hits (1 ∷ 0 ∷ 1 ∷ 4 ∷ 1 ∷ 17925 ∷ 0 ∷ rest) ≡ 0)
 unfolding recording
 one-fewer rest n = (rw n refl, refl)
 

@@ -17,8 +17,12 @@ sounds n = map (λ i. i / 64) (count-up 0 n)
 abbrev steps : ℕ → List ℕ
 steps n = map (λ i. i % 64) (count-up 0 n)
 
+-- 1 to 127, and again
+abbrev velocities : ℕ → List ℕ
+velocities n = map (λ i. 1 + i % 127) (count-up 0 n)
+
 abbrev bar-of : (id n : ℕ) → Bar
-bar-of id n = bar id 64 (hits-in (sounds n) (steps n))
+bar-of id n = bar id 64 (hits-in (sounds n) (steps n) (velocities n))
 
 -- bars 0 to 63 of 128 hits: 8,192
 abbrev full : List Bar
@@ -29,12 +33,12 @@ abbrev half : List Bar
 half = map (λ i. bar-of (2 * i + 1) 128) (count-up 0 32)
 
 -- not one hit more. Fails: a limit over each bar
-one-more : save full 100 64 (0 ∷ []) (0 ∷ []) ≡ refused 19 0 0
+one-more : save full 100 64 (0 ∷ []) (0 ∷ []) (1 ∷ []) ≡ refused 19 0 0
 unfolding mapping
 one-more = refl
 
 -- but a bar without hits, the 65th. Fails: full is full
-no-hit-more : save full 100 64 [] [] ≡ ok (full ++ bar 100 64 [] ∷ [])
+no-hit-more : save full 100 64 [] [] [] ≡ ok (full ++ bar 100 64 [] ∷ [])
 unfolding mapping
 no-hit-more = refl
 
@@ -49,11 +53,11 @@ unfolding mapping
 evens-erased = refl
 
 -- 32 gaps of 128 hits: one bar of 4,096 hits takes them all. Fails: 19 for want of a gap so long
-all-gaps : save half 200 64 (sounds 4096) (steps 4096) ≡ ok (half ++ bar-of 200 4096 ∷ [])
+all-gaps : save half 200 64 (sounds 4096) (steps 4096) (velocities 4096) ≡ ok (half ++ bar-of 200 4096 ∷ [])
 unfolding mapping
 all-gaps = refl
 
 -- one hit more is 19. Fails: the room of erased bars counted twice
-past-the-gaps : save half 200 64 (sounds 4097) (steps 4097) ≡ refused 19 0 0
+past-the-gaps : save half 200 64 (sounds 4097) (steps 4097) (velocities 4097) ≡ refused 19 0 0
 unfolding mapping
 past-the-gaps = refl

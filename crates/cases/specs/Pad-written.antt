@@ -29,7 +29,7 @@ unfolding writing-out
 lists = refl
 
 -- sounds 0 and 127, the first and the last. Fails: sounds from 1 on, 127 names
-first-and-last : laid-flat (given-of (names 0 (replicate 127 1 ++ 2 ∷ []) (a ++ b)) (bar 4 2 (hit 0 1 ∷ hit 127 0 ∷ []) ∷ [])) ≡ record {
+first-and-last : laid-flat (given-of (names 0 (replicate 127 1 ++ 2 ∷ []) (a ++ b)) (bar 4 2 (hit 0 1 127 ∷ hit 127 0 1 ∷ []) ∷ [])) ≡ record {
   ids = 4 ∷ [];
   lengths = 2 ∷ [];
   text = a ++ b;
@@ -44,7 +44,7 @@ first-and-last = refl
 
 -- sound 5 in bar 9 alone, sound 6 in bars 2 and 9; bar 4 has neither. Fails: a posting without positions, bars by their hits
 some-bars : laid-flat (given-of (names 0 (replicate 5 0 ++ 1 ∷ replicate 122 2) (a ++ b))
-    (bar 2 8 (hit 6 0 ∷ hit 6 7 ∷ []) ∷ bar 4 8 [] ∷ bar 9 8 (hit 5 3 ∷ hit 6 1 ∷ []) ∷ [])) ≡ record {
+    (bar 2 8 (hit 6 0 9 ∷ hit 6 7 8 ∷ []) ∷ bar 4 8 [] ∷ bar 9 8 (hit 5 3 7 ∷ hit 6 1 6 ∷ []) ∷ [])) ≡ record {
       ids = 2 ∷ 4 ∷ 9 ∷ [];
       lengths = 8 ∷ 8 ∷ 8 ∷ [];
       text = a ++ b;

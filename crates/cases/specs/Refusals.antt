@@ -12,7 +12,7 @@ use Rattle.segment.specs.Refusals.{non-increasing-posting-id, unknown-document,
 use Rattle.segment.specs.Refusals.{position-exceeds-length, trailing-posting-bytes, document-lengths-not-increasing, terms-not-increasing}
 use Rattle.segment.specs.Refusals.{posting-id-gap-underflow, posting-ids-not-increasing, position-gap-underflow, positions-not-increasing}
 use Rattle.segment.specs.Refusals.{written-position-exceeds-length, midi-file, bar-too-far, unknown-bar, bar-too-long, already-held}
-use Rattle.segment.specs.Refusals.{pad-full, broken-pad, ids-not-rising}
+use Rattle.segment.specs.Refusals.{pad-full, broken-pad, ids-not-rising, velocity-range}
 
 -- 1 header, 2 term directory, 3 term bytes, 4 document metadata, 5 postings, 6 term postings
 sections : header ∷ term-directory ∷ term-bytes ∷ document-metadata ∷ postings ∷ term-postings ∷ [] ≡ 1 ∷ 2 ∷ 3 ∷ 4 ∷ 5 ∷ 6 ∷ []
@@ -127,3 +127,7 @@ kind-20 = refl
 -- 21 an id that is not above the one before it (index: its place from 0)
 kind-21 : (place : ℕ) → ids-not-rising place ≡ record { kind = 21; which = 0; index = place }
 kind-21 place = refl
+
+-- 22 a velocity outside 1 to 127
+kind-22 : velocity-range ≡ record { kind = 22; which = 0; index = 0 }
+kind-22 = refl

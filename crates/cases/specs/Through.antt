@@ -40,7 +40,7 @@ use Rattle.midi_bars.specs.Loudness.{greatest, velocities-of}
 use Rattle.midi_bars.specs.Imports.{import-file, import-all, import-into, roomy-all, roomy-beside}
 use Rattle.length_lookup.specs.Lookup.{check-ids, check-ids-and-lengths, looked-up}
 use Rattle.pad_map.specs.Bars.{lookup, insert, without}
-use Rattle.pad_map.specs.Rules.{before, hit-fine, hits-fine, all-up-to, hits-rise, all-below, check-hits}
+use Rattle.pad_map.specs.Rules.{before, hit-fine, hits-fine, all-up-to, all-audible, hits-rise, all-below, check-hits}
 use Rattle.pad_map.specs.Acts as pad
 use Rattle.pad_words.specs.Words.{bar-words, stored, hits-of, held}
 use Rattle.pad_words.specs.Words as pad-words
@@ -145,7 +145,7 @@ unfolding length-of check-ids check-ids-and-lengths looked-up
 looking-up = tt
 
 unfoldable pub mapping : Unit {0}
-unfolding lookup insert without before all-up-to hits-rise all-below check-hits pad.save pad.read
+unfolding lookup insert without before all-up-to all-audible hits-rise all-below check-hits pad.save pad.read
 mapping = tt
 
 unfoldable pub recording : Unit {0}
