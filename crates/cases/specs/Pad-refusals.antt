@@ -106,7 +106,8 @@ module _ (rest : List ℕ) (n : length (pad-of-1 rest) ≡ 17154) where
   sound-falls = rw n refl
 
   -- two sounds on one step, and a step that falls where the sound rises. Fails: the order by step, by both
-  sound-rises : (saved 2 4 (5 ∷ 6 ∷ []) (1 ∷ 1 ∷ []) (9 ∷ 8 ∷ []) ≡ ok (bar 1 4 (hit 5 0 70 ∷ []) ∷ bar 2 4 (hit 5 1 9 ∷ hit 6 1 8 ∷ []) ∷ []))
+  sound-rises :
+      (saved 2 4 (5 ∷ 6 ∷ []) (1 ∷ 1 ∷ []) (9 ∷ 8 ∷ []) ≡ ok (bar 1 4 (hit 5 0 70 ∷ []) ∷ bar 2 4 (hit 5 1 9 ∷ hit 6 1 8 ∷ []) ∷ []))
       × (saved 2 4 (5 ∷ 6 ∷ []) (3 ∷ 0 ∷ []) (9 ∷ 8 ∷ []) ≡ ok (bar 1 4 (hit 5 0 70 ∷ []) ∷ bar 2 4 (hit 5 3 9 ∷ hit 6 0 8 ∷ []) ∷ []))
   unfolding recording
   sound-rises = (rw n refl, rw n refl)

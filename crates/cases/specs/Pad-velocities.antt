@@ -1,5 +1,5 @@
--- Velocities on the pad (document 02, wish 9): a third list, from 1 to 127; 22 comes after sounds and before hit order. A hit's first word is
--- sound + 256 * velocity.
+-- Velocities on the pad (document 02, wish 9): a third list, from 1 to 127; 22 comes after sounds and before hit order. A hit's first word
+-- is sound + 256 * velocity.
 use Prim.Native.Nat.{ℕ}
 use mathlib.Core.Path.{_≡_, refl}
 use mathlib.Core.List.{List, [], _∷_, _++_}
@@ -34,11 +34,11 @@ kick-ends = replicate 36 0 ++ replicate 92 4
 -- bar 1 written out as kick, byte by byte
 abbrev segment-of-1 : List ℕ
 segment-of-1 =
-    0x50 ∷ 0x53 ∷ 0x54 ∷ 0x50 ∷ 0x30 ∷ 0x30 ∷ 0x30 ∷ 0x31 ∷ 0x02 ∷ 0x00 ∷ 0x00 ∷ 0x00 ∷ 0x00 ∷ 0x00 ∷ 0x00 ∷ 0x00  -- magic; version, flags, documents, terms
-    ∷ 0x01 ∷ 0x00 ∷ 0x00 ∷ 0x00 ∷ 0x01 ∷ 0x00 ∷ 0x00 ∷ 0x00
-    ∷ 0x20 ∷ 0x00 ∷ 0x00 ∷ 0x00 ∷ 0x00 ∷ 0x00 ∷ 0x00 ∷ 0x00 ∷ 0x04 ∷ 0x00 ∷ 0x00 ∷ 0x00 ∷ 0x00 ∷ 0x00 ∷ 0x00 ∷ 0x00  -- lengths of the four sections
+    0x50 ∷ 0x53 ∷ 0x54 ∷ 0x50 ∷ 0x30 ∷ 0x30 ∷ 0x30 ∷ 0x31 ∷ 0x02 ∷ 0x00 ∷ 0x00 ∷ 0x00 ∷ 0x00 ∷ 0x00 ∷ 0x00 ∷ 0x00  -- magic; version, flags
+    ∷ 0x01 ∷ 0x00 ∷ 0x00 ∷ 0x00 ∷ 0x01 ∷ 0x00 ∷ 0x00 ∷ 0x00  -- documents, terms
+    ∷ 0x20 ∷ 0x00 ∷ 0x00 ∷ 0x00 ∷ 0x00 ∷ 0x00 ∷ 0x00 ∷ 0x00 ∷ 0x04 ∷ 0x00 ∷ 0x00 ∷ 0x00 ∷ 0x00 ∷ 0x00 ∷ 0x00 ∷ 0x00  -- four lengths
     ∷ 0x02 ∷ 0x00 ∷ 0x00 ∷ 0x00 ∷ 0x00 ∷ 0x00 ∷ 0x00 ∷ 0x00 ∷ 0x04 ∷ 0x00 ∷ 0x00 ∷ 0x00 ∷ 0x00 ∷ 0x00 ∷ 0x00 ∷ 0x00
-    ∷ 0xC2 ∷ 0x5A ∷ 0x95 ∷ 0xED ∷ 0x05 ∷ 0xDF ∷ 0xD5 ∷ 0x1E ∷ 0x8C ∷ 0xAB ∷ 0x19 ∷ 0x56 ∷ 0x0E ∷ 0xA8 ∷ 0x11 ∷ 0x9D  -- checksums of the four sections
+    ∷ 0xC2 ∷ 0x5A ∷ 0x95 ∷ 0xED ∷ 0x05 ∷ 0xDF ∷ 0xD5 ∷ 0x1E ∷ 0x8C ∷ 0xAB ∷ 0x19 ∷ 0x56 ∷ 0x0E ∷ 0xA8 ∷ 0x11 ∷ 0x9D  -- four checksums
     ∷ 0x00 ∷ 0x00 ∷ 0x00 ∷ 0x00 ∷ 0x04 ∷ 0x00 ∷ 0x00 ∷ 0x00 ∷ 0x00 ∷ 0x00 ∷ 0x00 ∷ 0x00 ∷ 0x00 ∷ 0x00 ∷ 0x00 ∷ 0x00  -- the entry of kick
     ∷ 0x04 ∷ 0x00 ∷ 0x00 ∷ 0x00 ∷ 0x00 ∷ 0x00 ∷ 0x00 ∷ 0x00 ∷ 0x01 ∷ 0x00 ∷ 0x00 ∷ 0x00 ∷ 0x0E ∷ 0xA8 ∷ 0x11 ∷ 0x9D
     ∷ 0x6B ∷ 0x69 ∷ 0x63 ∷ 0x6B  -- names
@@ -47,7 +47,7 @@ segment-of-1 =
     ∷ []
 
 module _ (rest : List ℕ) (n : length (accents rest) ≡ 17154) where
-  -- velocity 0: refused, and every word stays. Fails: 0 taken for a hit that is not there, the velocity or its place as index
+  -- velocity 0: refused, and every word stays. Fails: 0 taken for a hit that is not there, or for a velocity that is not given
   silent : Saves (accents rest) 2 8 (36 ∷ []) (0 ∷ []) (0 ∷ []) (counted.Refused (record { kind = 22; which = 0; index = 0 }))
       (accents rest)
   unfolding recording
@@ -111,14 +111,14 @@ module _ (rest : List ℕ) (n : length (pad-of-1 rest) ≡ 17154) where
   unfolding recording
   range = rw n refl
 
-  -- 0, 128, 255. Fails: a range from 0 on, up to 128; a velocity with a sign, a limit of 255
+  -- 0, 128, 255. Fails: a range from 0 on, up to 128, every byte but 0; the velocity as index
   out-of-range : (saved 2 4 (5 ∷ []) (0 ∷ []) (0 ∷ []) ≡ refused 22 0 0)
       × (saved 2 4 (5 ∷ []) (0 ∷ []) (128 ∷ []) ≡ refused 22 0 0)
       × (saved 2 4 (5 ∷ []) (0 ∷ []) (255 ∷ []) ≡ refused 22 0 0)
   unfolding recording
   out-of-range = (rw n refl, rw n refl, rw n refl)
 
-  -- the last hit's alone. Fails: the first hit alone tested
+  -- the last hit's alone. Fails: the first hit alone tested; the hit's place as index
   last-velocity : (saved 2 4 (5 ∷ 5 ∷ 6 ∷ []) (0 ∷ 1 ∷ 2 ∷ []) (1 ∷ 127 ∷ 0 ∷ []) ≡ refused 22 0 0)
       × (saved 2 4 (5 ∷ 5 ∷ 6 ∷ []) (0 ∷ 1 ∷ 2 ∷ []) (1 ∷ 127 ∷ 128 ∷ []) ≡ refused 22 0 0)
   unfolding recording
@@ -140,7 +140,7 @@ module _ (rest : List ℕ) (n : length (pad-of-1 rest) ≡ 17154) where
   unfolding recording
   long-velocities xs = (λ m. rw (n, m) refl, λ m. rw (n, m) refl, λ m. rw (n, m) refl)
 
-  -- one fewer than sounds and steps, one more, one of no hit's, none. Fails: as many hits as velocities saved, a velocity that was not given
+  -- one fewer than sounds and steps, one more, one of no hit's, none. Fails: the shortest list's hits saved, 127 for want of one
   uneven : (saved 2 4 (5 ∷ 6 ∷ []) (0 ∷ 1 ∷ []) (1 ∷ []) ≡ refused 11 0 0)
       × (saved 2 4 (5 ∷ 6 ∷ []) (0 ∷ 1 ∷ []) (1 ∷ 2 ∷ 3 ∷ []) ≡ refused 11 0 0)
       × (saved 2 4 [] [] (1 ∷ []) ≡ refused 11 0 0)
@@ -181,13 +181,13 @@ held-0 : Breaks 6
 unfolding recording
 held-0 = (λ rest n. rw n refl, λ rest n. rw n refl)
 
--- with 128, 255. Fails: a range up to 128; a limit of 255, a velocity with a sign
+-- with 128, 255. Fails: a range up to 128; every byte but 0
 held-128 : Breaks 32774 × Breaks 65286
 unfolding recording
 held-128 = ((λ rest n. rw n refl, λ rest n. rw n refl), (λ rest n. rw n refl, λ rest n. rw n refl))
 
--- 6 with velocity 1, and 65536, 65536 * 256, 65536 * 65535 more. Fails: one byte of the word taken for the velocity, 16 bits, 24 bits looked at
-high-bits : Breaks 65798 × Breaks 16777478 × Breaks 4294902022
+-- 6 with velocity 1, and 65536, 65536 * 256, 65536 * 32768 more. Fails: the low 16 bits of the word alone looked at, the low 24, 31
+high-bits : Breaks 65798 × Breaks 16777478 × Breaks 2147483910
 unfolding recording
 high-bits = (
   (λ rest n. rw n refl, λ rest n. rw n refl),
@@ -222,8 +222,8 @@ bars-without-hits : (rest : List ℕ) → length (2 ∷ 0 ∷ 3 ∷ 16 ∷ 0 ∷
 unfolding recording
 bars-without-hits rest n = (rw n refl, rw n refl)
 
--- one hit of velocity 0 breaks the pad in each of the calls, whether it looks at velocities or not; the counter goes on. Fails: the bar read,
--- erased or written, another saved
+-- one hit of velocity 0: 20 in each of the calls that test, whether they look at velocities or not. Fails: the bar read, erased or written,
+-- another saved; 20 of the counter
 every-call : (rest : List ℕ) → length (1 ∷ 1 ∷ 1 ∷ 4 ∷ 1 ∷ 36 ∷ 0 ∷ rest) ≡ 17154
     → (pad-save (1 ∷ 1 ∷ 1 ∷ 4 ∷ 1 ∷ 36 ∷ 0 ∷ rest) 2 4 (5 ∷ []) (0 ∷ []) (1 ∷ []) ≡ refused 20 0 0)
     × (pad-erase (1 ∷ 1 ∷ 1 ∷ 4 ∷ 1 ∷ 36 ∷ 0 ∷ rest) 1 ≡ refused 20 0 0)
@@ -251,7 +251,7 @@ moved-down rest n = (rw n refl, rw n refl)
 
 -- ---- written bytes depend on sound and step only
 
--- document 01's two bars with other velocities, 1 in all hits; and as they are in the other cases. Fails: velocity written, quiet hits left out
+-- document 01's two bars with velocity 1 in all hits, and as they are in the other cases. Fails: a velocity written, quiet hits left out
 written-alike : (rest : List ℕ) → length (pad-of-two rest) ≡ 17154
     → (pad-write (2 ∷ 8 ∷ 3 ∷ 16 ∷ 5 ∷ 292 ∷ 0 ∷ 292 ∷ 4 ∷ 292 ∷ 15 ∷ 294 ∷ 8 ∷ 294 ∷ 14
     ∷ 7 ∷ 16 ∷ 3 ∷ 292 ∷ 2 ∷ 294 ∷ 3 ∷ 294 ∷ 4 ∷ rest) (kick ++ snare) (replicate 36 0 ++ 4 ∷ 4 ∷ replicate 90 9) 165 ≡ ok segment-of-two)

@@ -29,16 +29,17 @@ unfolding writing-out
 lists = refl
 
 -- sounds 0 and 127, the first and the last. Fails: sounds from 1 on, 127 names
-first-and-last : laid-flat (given-of (names 0 (replicate 127 1 ++ 2 ∷ []) (a ++ b)) (bar 4 2 (hit 0 1 127 ∷ hit 127 0 1 ∷ []) ∷ [])) ≡ record {
-  ids = 4 ∷ [];
-  lengths = 2 ∷ [];
-  text = a ++ b;
-  ends = 1 ∷ 2 ∷ [];
-  posting-counts = 1 ∷ 1 ∷ [];
-  posting-ids = 4 ∷ 4 ∷ [];
-  position-counts = 1 ∷ 1 ∷ [];
-  positions = 1 ∷ 0 ∷ [];
-}
+first-and-last : laid-flat (given-of (names 0 (replicate 127 1 ++ 2 ∷ []) (a ++ b))
+    (bar 4 2 (hit 0 1 127 ∷ hit 127 0 1 ∷ []) ∷ [])) ≡ record {
+      ids = 4 ∷ [];
+      lengths = 2 ∷ [];
+      text = a ++ b;
+      ends = 1 ∷ 2 ∷ [];
+      posting-counts = 1 ∷ 1 ∷ [];
+      posting-ids = 4 ∷ 4 ∷ [];
+      position-counts = 1 ∷ 1 ∷ [];
+      positions = 1 ∷ 0 ∷ [];
+    }
 unfolding writing-out
 first-and-last = refl
 
