@@ -3,10 +3,11 @@
 use mathlib.Core.Path.{_≡_, ap}
 use mathlib.Core.Bool.{Bool, true, false, cond}
 use mathlib.Core.List.{List, [], _∷_}
-use Prim.Native.Nat.{ℕ, zero, suc, _+_, _-_, _/_, _%_, _≤_}
+use Prim.Native.Nat.{ℕ, zero, suc, _+_, _-_, _/_, _%_, _≤_, _<_}
 use native.Mathlib.Omega.{arith}
 use lib.Dec.{eqb}
 use lib.ListN.{length, getD, set}
+use borrow.Author.Tests.{eq-eqb, ne-eqb, lt-ltb, le-ltb}
 use Rattle.segment.specs.Results.{ok}
 use Rattle.segment.proofs.Binds.{bind-gives, ok-same}
 use Rattle.midi_read.specs.declared.track.Hit.{Hit}
@@ -22,6 +23,17 @@ in-last-le more new before = go (eqb more 0)
     go : (a : Bool) → cond a (before + new) new ≤ before + new
     go true = omega arith
     go false = omega arith
+
+-- the louder of two, or a new step's
+module _ (new held v : ℕ) where
+  pub loud-new : (new ≡ 0 → ⊥) → v ≡ loud-last new held v
+  loud-new k = rw (ne-eqb new 0 k)
+
+  pub loud-more : new ≡ 0 → held < v → v ≡ loud-last new held v
+  loud-more e l = rw (eq-eqb new 0 e, lt-ltb held v l)
+
+  pub loud-less : new ≡ 0 → v ≤ held → held ≡ loud-last new held v
+  loud-less e l = rw (eq-eqb new 0 e, le-ltb held v l)
 
 pub stored-as : (starts marks : List ℕ) (n step steps v : ℕ) (x : Buffers) {more new count loudest bar position : ℕ}
     → more ≡ opens (getD (x .last) n 0) step steps
