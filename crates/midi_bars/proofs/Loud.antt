@@ -161,7 +161,7 @@ module _ (steps quarter : ℕ) (file : List ℕ) (hs : List Hit) where
         let s = position-gives own-grid hs n b p m in
         let vs = map (λ (h : Hit). h .velocity) there in
         let own = kept-from (on-position own-grid n b p) hs (s .hit) (s .there)
-            (on-true own-grid n b p (s .hit) (s .sound) (s .in-bar) (s .on)) in
+        (on-true own-grid n b p (s .hit) (s .sound) (s .in-bar) (s .on)) in
         let some = greatest-some vs _ (map-from (λ (h : Hit). h .velocity) there (s .hit) own) in
         let (h, k, e) = map-gives (λ (h : Hit). h .velocity) there (greatest vs) some in
         let (among, t) = kept-gives (on-position own-grid n b p) hs h k in
@@ -188,8 +188,12 @@ module _ (steps quarter : ℕ) (file : List ℕ) (hs : List Hit) where
       let cs = cells own-grid hs in
       let c = getD cs i (cell 0 0 0) in
       let below : i < length cs = omega (arith, ap length (velocities-are own-grid hs), length-map cs (loud-of own-grid hs)) in
-      rw (spots-are own-grid hs, velocities-are own-grid hs, map-at spot-of cs i (spot [] 0 0) (cell 0 0 0) below,
-      map-at (loud-of own-grid hs) cs i 0 (cell 0 0 0) below)
+      rw (
+        spots-are own-grid hs,
+        velocities-are own-grid hs,
+        map-at spot-of cs i (spot [] 0 0) (cell 0 0 0) below,
+        map-at (loud-of own-grid hs) cs i 0 (cell 0 0 0) below,
+      )
       (c .note, refl, loud-cell c (at-place (cell 0 0 0) cs i below))
 
   audible-so : Hits-fine own-grid hs → (v : ℕ) → v ∈ velocities-of own-grid hs → (1 ≤ v) × (v ≤ 127)
