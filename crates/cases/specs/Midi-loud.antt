@@ -1,8 +1,7 @@
--- How loud the hits of a MIDI file are: beside each position the loudest hit of its sound on its step. Midi-files.antt has the velocities of
--- its files too.
-use Prim.Native.Nat.{ℕ}
+-- How loud the hits of a MIDI file are: beside each position the loudest hit of its sound on its step. Midi-files.antt has the velocities
+-- of its files too.
 use mathlib.Core.Path.{_≡_, refl}
-use mathlib.Core.List.{List, [], _∷_, map}
+use mathlib.Core.List.{[], _∷_, map}
 use Rattle.segment.specs.Results.{ok}
 use Rattle.cases.specs.Through.{importing}
 use Rattle.cases.specs.Midi-made.{tune, end, loud}

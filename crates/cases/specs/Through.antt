@@ -136,8 +136,8 @@ unfolding heading-read midi.number-from midi.message midi.skipped midi.meta midi
 hearing = tt
 
 unfoldable pub importing : Unit {0}
-unfolding hearing some-of kept rising-from bar-count sounds-of bars-of bars.positions-of given-of lists-of laid-flat roomy-all greatest velocities-of
-    roomy-beside
+unfolding hearing some-of kept rising-from bar-count sounds-of bars-of bars.positions-of given-of lists-of laid-flat roomy-all greatest
+    velocities-of roomy-beside
 importing = tt
 
 unfoldable pub looking-up : Unit {0}

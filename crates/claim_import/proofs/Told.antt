@@ -103,7 +103,8 @@ module _ (steps quarter : ℕ) (file : List ℕ) (b : All-lists) (out name ends 
 
   -- the lists themselves, at the fronts
   promised : import-into steps quarter file b ≡ ok l
-      → Imported-then-asked steps quarter file b out name ends found (reply.Asked (totals-of (l .lists)) a) (import-left (ok l) b) out′ found′
+      → Imported-then-asked steps quarter file b out name ends found (reply.Asked (totals-of (l .lists)) a) (import-left (ok l) b)
+      out′ found′
   promised read = record {
     accepts = accepts-so steps quarter file b read;
     claim = λ m good.
@@ -142,7 +143,8 @@ module _ (steps quarter : ℕ) (file : List ℕ) (b : All-lists) (one : 1 ≤ st
         (import-into steps quarter file b) b (λ l read w.
         promised steps quarter file b out name ends found one
         (subst (λ m. Written-then-asked m out question.Phrase name ends name found a out′ found′)
-        (fronts-are steps quarter file (b .lists) (l .lists) one (without steps quarter file l (read-by steps quarter file b l read))) w) read) (sym e ∙ told .reply) (told .left)
+        (fronts-are steps quarter file (b .lists) (l .lists) one (without steps quarter file l (read-by steps quarter file b l read))) w) read)
+        (sym e ∙ told .reply) (told .left)
 
     -- the importer refused
     pub refused-promise : {x : Refusal} → r ≡ imported.Refused x

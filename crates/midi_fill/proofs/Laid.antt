@@ -104,7 +104,8 @@ module _ (g : Grid) (hs : List Hit) where
       ≡ joined (map (λ n. joined (map (positions-of g hs n) (bars-of g hs n))) (rising-from 0 128))
   unfolding lists-of laid-flat given-of
   positions-by =
-      ap joined (postings-by (λ p. p .positions) (sounds-of g hs)) ∙ joined-twice (λ n. map (positions-of g hs n) (bars-of g hs n)) (sounds-of g hs)
+      ap joined (postings-by (λ p. p .positions) (sounds-of g hs))
+      ∙ joined-twice (λ n. map (positions-of g hs n) (bars-of g hs n)) (sounds-of g hs)
       ∙ by-sounds (λ n bs. joined (map (positions-of g hs n) bs)) (λ n. refl)
 
   velocities-by : velocities-of g hs
@@ -173,7 +174,8 @@ room-of cs f many each =
     sym (total-of cs 0 f (λ i h. let own : i ≡ 0 + i = omega arith in each i (omega arith) ∙ ap (λ (n : ℕ). length (f n)) own)
     ∙ ap (λ (n : ℕ). length (joined (map f (rising-from 0 n)))) many)
 
-module _ (g : Grid) (hs : List Hit) (a b c d : List ℕ) (some-ticks : 1 ≤ g .ticks) (fine : Hits-fine g hs) (in-order : Never-fall 0 hs) where
+module _ (g : Grid) (hs : List Hit) (a b c d : List ℕ) (some-ticks : 1 ≤ g .ticks) (fine : Hits-fine g hs)
+    (in-order : Never-fall 0 hs) where
   abbrev at-first : Buffers
   at-first = buffers (zeros 128) (zeros 128) (zeros 128) (zeros 128) (zeros 128) a b c d
 

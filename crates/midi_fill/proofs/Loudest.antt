@@ -4,7 +4,7 @@ use mathlib.Core.Path.{_≡_, refl, sym, ap, ap₂, _∙_}
 use mathlib.Core.Bool.{Bool, true, false, cond, _&&_}
 use mathlib.Core.List.{List, [], _∷_, map, map-map}
 use mathlib.Core.Logic.{inl, inr}
-use Prim.Native.Nat.{ℕ, _+_, _*_, _-_, _/_, _%_, _≤_, _<_}
+use Prim.Native.Nat.{ℕ, _+_, _*_, _-_, _≤_, _<_}
 use native.Mathlib.Omega.{arith}
 use lib.Dec.{eqb}
 use borrow.Author.Tests.{eqb-true, eqb-false, eq-eqb, ne-eqb}
@@ -14,7 +14,7 @@ use Rattle.common.specs.Lists.{joined}
 use Rattle.common.proofs.Kept.{kept-none, kept-same, map-same}
 use Rattle.midi_read.specs.declared.track.Hit.{Hit}
 use Rattle.midi_read.specs.Files.{Grid, step-of, bar-of, position-of}
-use Rattle.midi_bars.specs.Bars.{greater, of-sound, on-position, bars-of, positions-of}
+use Rattle.midi_bars.specs.Bars.{greater, of-sound, on-position, positions-of}
 use Rattle.midi_bars.specs.Loudness.{greatest, loudest}
 use Rattle.midi_bars.proofs.Nested.{map-joined}
 use Rattle.midi_bars.proofs.Struck.{position-below}

@@ -206,7 +206,8 @@ module _ (g : Grid) (kind : Kind g) where
       unfolding kept
       scattered x [] w low i n l = refl
       scattered x (h ∷ hs) w low i n l =
-          scattered (put g starts marks x h) hs (long-on starts marks (h .note) (step-of g h) (g .steps) (h .velocity) x w) (λ k m. low k (inr m))
+          scattered (put g starts marks x h) hs (long-on starts marks (h .note) (step-of g h) (g .steps) (h .velocity) x w)
+          (λ k m. low k (inr m))
           (λ m k. inside-on x h hs m w k (i m k)) n l
           ∙ step (eqb (h .note) n) refl
         where

@@ -61,7 +61,8 @@ module _ (g : Grid) (file : List ℕ) (b : All-lists) where
   pub events-broken : {x : Refusal} → hits g file ≡ refuse x → Events-imported g file b (imported.Refused x) b
   events-broken {x} e = made (refuse x) (hits-refused e)
 
-  too-short : {hs : List Hit} {x : Refusal} → hits g file ≡ ok hs → roomy-beside (all-of g hs) b ≡ refuse x → events-into g file b ≡ refuse x
+  too-short : {hs : List Hit} {x : Refusal} → hits g file ≡ ok hs → roomy-beside (all-of g hs) b ≡ refuse x
+      → events-into g file b ≡ refuse x
   unfolding events-into
   too-short e f = rw (e, f)
 

@@ -115,7 +115,8 @@ fill-done {file} {starts} {marks} {a} {b} {c} {d} {ticks} {steps} y w f = record
 
 -- ---- all nine lists
 
-pub heads-fit : {file postings starts marks : List ℕ} {ticks steps : ℕ} {b : All-lists} → Store-fits file ticks steps postings starts marks b
+pub heads-fit : {file postings starts marks : List ℕ} {ticks steps : ℕ} {b : All-lists}
+    → Store-fits file ticks steps postings starts marks b
     → let l = b .lists in Heads-fit postings (l .ids) (l .text) (l .ends) (l .posting-counts)
 heads-fit {file} {postings} {ticks = ticks} {steps = steps} w =
     let h = heads file ticks steps (w .hs) (w .readable) in
@@ -128,7 +129,8 @@ heads-fit {file} {postings} {ticks = ticks} {steps = steps} w =
       low = tables file ticks steps (w .hs) (w .readable) .postings-low;
     })
 
-pub fill-fits : {file postings starts marks : List ℕ} {ticks steps : ℕ} {b : All-lists} → Store-fits file ticks steps postings starts marks b
+pub fill-fits : {file postings starts marks : List ℕ} {ticks steps : ℕ} {b : All-lists}
+    → Store-fits file ticks steps postings starts marks b
     → let l = b .lists in Fill-fits file ticks steps starts marks (l .posting-ids) (l .position-counts) (l .positions) (b .velocities)
 fill-fits w = record {
   hs = w .hs;

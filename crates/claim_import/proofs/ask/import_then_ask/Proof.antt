@@ -9,11 +9,11 @@ use Rattle.claim_import.proofs.ask.import_then_ask.Statement.{statement
 use Rattle.claim_import.proofs.ask.import_then_ask.Tie as tie
 
 -- where the first buffer came back, and the second, from where the importer's reply is matched
-abbrev first-back : tie.After-slice-known20 → tie.After-ids
-first-back c = c .before .before .before .before .before .before .before .before .before .before .before .before .before .before .before .before .before
-
 abbrev second-back : tie.After-slice-known20 → tie.After-lengths
 second-back c = c .before .before .before .before .before .before .before .before .before .before .before .before .before .before .before
+
+abbrev first-back : tie.After-slice-known20 → tie.After-ids
+first-back c = second-back c .before .before
 
 -- where the importer came back
 abbrev imported : tie.After-slice-known20 → tie.After-midi-bars

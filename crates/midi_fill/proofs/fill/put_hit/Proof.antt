@@ -151,17 +151,20 @@ slice-write-counts c = search needs
 
 mul-places : tie.Need-mul-places
 mul-places c =
-    let w = c .before .before .before .before .before .before .before .before .before .before .before .before .before .before .before .pre .in-bar in
+    let p = c .before .before .before .before .before .before .before .before .before .before .before .before .before .before .before in
+    let w = p .pre .in-bar in
     omega (arith, first-le _ _ _ (w .bar-is), w .near)
 
 sub-places : tie.Need-sub-places
 sub-places c =
-    let w = c .before .before .before .before .before .before .before .before .before .before .before .before .before .before .before .pre .in-bar in
+    let p = c .before .before .before .before .before .before .before .before .before .before .before .before .before .before .before in
+    let w = p .pre .in-bar in
     omega (arith, first-le _ _ _ (w .bar-is))
 
 cast-places : tie.Need-cast-places
 cast-places c =
-    let w = c .before .before .before .before .before .before .before .before .before .before .before .before .before .before .before .pre .in-bar in
+    let p = c .before .before .before .before .before .before .before .before .before .before .before .before .before .before .before in
+    let w = p .pre .in-bar in
     omega (arith, w .near)
 
 mul-places-2 : tie.Need-mul-places-2

@@ -48,7 +48,9 @@ enough : (k : tie.After-enum-told) → Room-enough (all (k .before .before)) (ro
 enough k = room-gives _ _ (passed k)
 
 begin-requires : tie.Need-begin-requires
-begin-requires c κs = summable-postings (c .before .before .before .before .before .before .before .before .before .before .before .pre) _ refl
+begin-requires c κs =
+    let p = c .before .before .before .before .before .before .before .before .before .before .before in
+    summable-postings (p .pre) _ refl
 
 begin-requires-2 : tie.Need-begin-requires-2
 begin-requires-2 c κs =

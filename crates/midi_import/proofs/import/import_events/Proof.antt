@@ -6,7 +6,9 @@ use Rattle.midi_import.proofs.import.import_events.Statement.{statement
 use Rattle.midi_import.proofs.import.import_events.Tie as tie
 
 count-requires : tie.Need-count-requires
-count-requires c κs = countable (c .before .before .before .before .before .before .before .before .before .before .before .before .before .pre)
+count-requires c κs =
+    let p = c .before .before .before .before .before .before .before .before .before .before .before .before .before in
+    countable (p .pre)
 
 enum-known-x : tie.Need-enum-known-x
 enum-known-x c = search needs

@@ -124,7 +124,8 @@ returns-8 c =
     let a = e1 .before .before .args in
     rw (c .no-room8 .ensures)
     (short-8 (a .needed) (a .ids) (a .lengths) (a .text) (a .ends) (a .posting-counts) (a .posting-ids) (a .position-counts) (a .positions)
-    (a .velocities) (e1 .if1 .left) (e2 .if2 .left) (e3 .if3 .left) (e4 .if4 .left) (e5 .if5 .left) (e6 .if6 .left) (e7 .if7 .left) (i .if8 .taken))
+    (a .velocities) (e1 .if1 .left) (e2 .if2 .left) (e3 .if3 .left) (e4 .if4 .left) (e5 .if5 .left) (e6 .if6 .left) (e7 .if7 .left)
+    (i .if8 .taken))
 
 no-room-requires-9 : tie.Need-no-room-requires-9
 no-room-requires-9 c κs = search needs

@@ -26,7 +26,8 @@ same-length-4 c = search needs
 returns : tie.Need-returns
 returns c =
     let f = c .before .before .before .before .before .before .before .before in
-    fill-done _ (f .before .before .before .before .before .before .before .before .before .before .before .before .before .before .before .pre) (f .fill .ensures)
+    let p = f .before .before .before .before .before .before .before .before .before .before .before .before .before .before .before in
+    fill-done _ (p .pre) (f .fill .ensures)
 
 pub fill-lists-spec : {M : Type 1} → statement M
 fill-lists-spec =

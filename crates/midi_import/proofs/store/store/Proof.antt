@@ -12,7 +12,8 @@ put-heads-requires c κs =
 fill-lists-requires : tie.Need-fill-lists-requires
 fill-lists-requires c κs =
     let put = c .before .before .before .before .before .before .before .before .before .before .before .before .before .before in
-    let p = put .before .before .before .before .before .before .before .before .before .before .before .before .before .before .before .before in
+    let first = put .before .before .before .before .before .before .before .before in
+    let p = first .before .before .before .before .before .before .before .before in
     fill-fits (p .pre)
 
 same-length : tie.Need-same-length
@@ -46,7 +47,8 @@ returns : tie.Need-returns
 returns c =
     let f = c .before .before .before .before .before .before .before .before in
     let p = f .before .before .before .before .before .before .before .before .before .before .before .before .before .before .before in
-    let q = p .before .before .before .before .before .before .before .before .before .before .before .before .before .before .before .before in
+    let first = p .before .before .before .before .before .before .before .before in
+    let q = first .before .before .before .before .before .before .before .before in
     store-done _ (q .pre) (p .put-heads .ensures) (f .fill-lists .ensures)
 
 pub store-spec : {M : Type 1} → statement M
