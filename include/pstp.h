@@ -479,12 +479,12 @@ pstp_reply pstp_length_of(const uint32_t *ids, size_t ids_len, const uint32_t *l
 #define PSTP_PAD_BAR_LENGTH 1
 #define PSTP_PAD_BAR_HITS 2
 #define PSTP_PAD_BAR_WORDS 3
-#define PSTP_PAD_HIT_SOUND_VELOCITY 0 /* sound + PSTP_PAD_VELOCITY * velocity */
+#define PSTP_PAD_HIT_SOUND_VELOCITY 0 /* sound + PSTP_PAD_VELOCITY_UNIT * velocity */
 #define PSTP_PAD_HIT_STEP 1
 #define PSTP_PAD_HIT_WORDS 2
 
-/* In a hit's first word, w: the sound is w % PSTP_PAD_VELOCITY, the velocity w / PSTP_PAD_VELOCITY. */
-#define PSTP_PAD_VELOCITY 256
+/* In a hit's first word, w: the sound is w % PSTP_PAD_VELOCITY_UNIT, the velocity w / PSTP_PAD_VELOCITY_UNIT. */
+#define PSTP_PAD_VELOCITY_UNIT 256
 
 /* Saves a bar under an id that is not held.
  * first: number of hits.

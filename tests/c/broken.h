@@ -5,7 +5,7 @@
 #include "build.h"
 
 /* A hit's first word. */
-#define HIT(sound, velocity) ((sound) + (uint32_t)PSTP_PAD_VELOCITY * (velocity))
+#define HIT(sound, velocity) ((sound) + (uint32_t)PSTP_PAD_VELOCITY_UNIT * (velocity))
 
 /* Bars 3, 7 and 9, and a place for a word more than a pad has. */
 enum { THREE_BARS = 27 };

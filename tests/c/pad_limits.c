@@ -81,7 +81,7 @@ static void test_full(bool zeros) {
         bar = louder(&bar, 1);
         expect_saved("256 bars of 32 hits", 255 * 7 - 7 * i, 1, &bar, accepted(32, 0));
     }
-    expect("the last word is a step", recorded()[PSTP_PAD_WORDS - 2] % PSTP_PAD_VELOCITY == 31 && recorded()[PSTP_PAD_WORDS - 1] == 0);
+    expect("the last word is a step", recorded()[PSTP_PAD_WORDS - 2] % PSTP_PAD_VELOCITY_UNIT == 31 && recorded()[PSTP_PAD_WORDS - 1] == 0);
     expect_saved("a bar too many, without hits", 1, 1, &none, full);
     one.velocities[0] = 0;
     expect_saved("a bar too many, with velocity 0", 1, 1, &one, refused(PSTP_VELOCITY_RANGE, 0, 0));
@@ -100,7 +100,7 @@ static void test_full(bool zeros) {
 static void test_long_lists(void) {
     uint8_t *bytes = calloc(LIMIT + 1, 1), *loud = malloc(LIMIT + 1);
     uint32_t *words = calloc(LIMIT + 1, sizeof words[0]), *ends = calloc(LIMIT + 1, sizeof ends[0]);
-    uint32_t pad[PSTP_PAD_WORDS] = {1, 1, 5, 4, 1, 36 + 127 * PSTP_PAD_VELOCITY, 0}, before[PSTP_PAD_WORDS];
+    uint32_t pad[PSTP_PAD_WORDS] = {1, 1, 5, 4, 1, 36 + 127 * PSTP_PAD_VELOCITY_UNIT, 0}, before[PSTP_PAD_WORDS];
     const pstp_reply large = refused(PSTP_TOO_LARGE, 0, 0), misfit = refused(PSTP_LIST_SHAPE, 0, 0);
     memcpy(before, pad, sizeof pad);
     memset(loud, 127, LIMIT + 1);

@@ -160,14 +160,14 @@ static void test_held(void) {
     for (size_t i = 0; i < sizeof hit / sizeof hit[0]; i++) {
         for (size_t k = 0; k < sizeof wrong / sizeof wrong[0]; k++) {
             lay_three_bars(k % 2 ? MOST : 0);
-            made[hit[i]] = HIT(made[hit[i]] % PSTP_PAD_VELOCITY, wrong[k]);
+            made[hit[i]] = HIT(made[hit[i]] % PSTP_PAD_VELOCITY_UNIT, wrong[k]);
             expect_words_broken("a held velocity out of range", PSTP_PAD_WORDS);
         }
         for (uint32_t good = 1; good <= 127; good++) {
             uint8_t sounds[5], loud[5];
             uint32_t steps[5], id = hit[i] < 15 ? 3 : 7;
             lay_three_bars(MOST);
-            made[hit[i]] = HIT(made[hit[i]] % PSTP_PAD_VELOCITY, good);
+            made[hit[i]] = HIT(made[hit[i]] % PSTP_PAD_VELOCITY_UNIT, good);
             pstp_reply r = pstp_pad_read(made, PSTP_PAD_WORDS, id, sounds, 5, steps, 5, loud, 5);
             expect_reply("a held velocity", r, id == 3 ? accepted(5, 16) : accepted(3, 16));
             expect("a held velocity", loud[(hit[i] - (id == 3 ? 5 : 18)) / 2] == good);
@@ -179,7 +179,7 @@ static void test_held(void) {
 static void test_recorded_before(void) {
     lay_three_bars(0);
     for (size_t at = 5; at < 24; at += at == 13 ? 5 : 2) {
-        made[at] %= PSTP_PAD_VELOCITY;
+        made[at] %= PSTP_PAD_VELOCITY_UNIT;
     }
     expect_words_broken("recorded before, with hits", PSTP_PAD_WORDS);
     uint32_t pad[PSTP_PAD_WORDS] = {2, 0, 3, 16, 0, 7, 12, 0};

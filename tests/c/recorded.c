@@ -131,7 +131,7 @@ static void lay_out(void) {
         bar[PSTP_PAD_BAR_LENGTH] = map[i].length;
         bar[PSTP_PAD_BAR_HITS] = (uint32_t)map[i].hits->sounds_len;
         for (size_t k = 0; k < map[i].hits->sounds_len; k++, hit += PSTP_PAD_HIT_WORDS) {
-            hit[PSTP_PAD_HIT_SOUND_VELOCITY] = map[i].hits->sounds[k] + PSTP_PAD_VELOCITY * (uint32_t)map[i].hits->velocities[k];
+            hit[PSTP_PAD_HIT_SOUND_VELOCITY] = map[i].hits->sounds[k] + PSTP_PAD_VELOCITY_UNIT * (uint32_t)map[i].hits->velocities[k];
             hit[PSTP_PAD_HIT_STEP] = map[i].hits->steps[k];
         }
         bar = hit;

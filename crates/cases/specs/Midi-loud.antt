@@ -6,7 +6,7 @@ use Rattle.segment.specs.Results.{ok}
 use Rattle.cases.specs.Through.{importing}
 use Rattle.cases.specs.Midi-made.{tune, end, loud}
 
--- one sound on one step, three times with 20, 80 and 50 in every order. Fails: the first, the last or the one in the middle kept
+-- one sound on one step with 20, 80 and 50, the loudest second, first and last. Fails: the first, the last or the second kept
 any-order :
     map (λ track. loud (tune 4 track))
     ((0x00 ∷ 0x90 ∷ 0x26 ∷ 20 ∷ 0x00 ∷ 0x26 ∷ 80 ∷ 0x00 ∷ 0x26 ∷ 50 ∷ end)
@@ -31,7 +31,7 @@ by-sound : loud (tune 4 (0x00 ∷ 0x90 ∷ 0x26 ∷ 70 ∷ 0x00 ∷ 0x24 ∷ 30 
 unfolding importing
 by-sound = refl
 
--- 42, 36, 42 with 10, 20, 30: n036 stands first. Fails: file order, 10 20 30; the order of the ticks
+-- 42, 36, 42 with 10, 20, 30: n036 stands first. Fails: file order, 10 20 30
 positions-order : loud (tune 4 (0x00 ∷ 0x90 ∷ 0x2A ∷ 10 ∷ 0x04 ∷ 0x24 ∷ 20 ∷ 0x04 ∷ 0x2A ∷ 30 ∷ end)) ≡ ok (20 ∷ 10 ∷ 30 ∷ [])
 unfolding importing
 positions-order = refl

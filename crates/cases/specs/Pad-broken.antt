@@ -1,5 +1,5 @@
--- Kind 20 (document 02, wish 6), before all else: which words are a pad, and the map that these hold. The hits by digits have
--- velocity 1, so that a first word is 256 more than its sound; other velocities are in Pad-velocities.antt.
+-- Kind 20 (document 02, wish 6), before all else: which words are a pad, and the map that these hold. Hits by digits have velocity 1, so
+-- that a first word is 256 more than its sound, but for those of Pad-made.antt; other velocities are in Pad-velocities.antt.
 use Prim.Native.Nat.{ℕ}
 use mathlib.Core.Path.{_≡_, refl}
 use mathlib.Core.Bool.{true, false}

@@ -129,7 +129,7 @@ module _ (rest : List ℕ) (n : length (pad-of-two rest) ≡ 17154) where
 
   -- ---- erasing: how many hits the bar had; the bars behind it move to the front, and words that become free stay as they are
 
-  -- bar 3: bar 7 moves up by 13 words. Fails: a gap, bar 7 lost, the hits left in the total, 0 answered
+  -- bar 3: bar 7 moves down by 13 words. Fails: a gap, bar 7 lost, the hits left in the total, 0 answered
   erase-3 : Erases (pad-of-two rest) 3 (counted.Count 5) (1 ∷ 3 ∷ words-of-7 (25638 ∷ 8 ∷ 550 ∷ 14 ∷ words-of-7 rest))
   unfolding recording
   erase-3 = (rw n refl, rw n refl)

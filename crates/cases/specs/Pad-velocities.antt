@@ -235,19 +235,19 @@ every-call rest n = (rw n refl, rw n refl, rw n refl, rw n refl, refl)
 
 -- ---- velocities go with their bar: bar 3 has 36 with 127, bar 7 has 36 with 1 and 38 with 64
 
--- bar 7 moves up. Fails: sounds moved without velocities, velocities that stay with the place
-moved-up : (rest : List ℕ) → length (2 ∷ 3 ∷ 3 ∷ 4 ∷ 1 ∷ 32548 ∷ 0 ∷ 7 ∷ 4 ∷ 2 ∷ 292 ∷ 1 ∷ 16422 ∷ 2 ∷ rest) ≡ 17154
+-- bar 7 moves down. Fails: sounds moved without velocities, velocities that stay with the place
+moved-down : (rest : List ℕ) → length (2 ∷ 3 ∷ 3 ∷ 4 ∷ 1 ∷ 32548 ∷ 0 ∷ 7 ∷ 4 ∷ 2 ∷ 292 ∷ 1 ∷ 16422 ∷ 2 ∷ rest) ≡ 17154
     → Erases (2 ∷ 3 ∷ 3 ∷ 4 ∷ 1 ∷ 32548 ∷ 0 ∷ 7 ∷ 4 ∷ 2 ∷ 292 ∷ 1 ∷ 16422 ∷ 2 ∷ rest) 3 (counted.Count 1)
     (1 ∷ 2 ∷ 7 ∷ 4 ∷ 2 ∷ 292 ∷ 1 ∷ 16422 ∷ 2 ∷ 2 ∷ 292 ∷ 1 ∷ 16422 ∷ 2 ∷ rest)
 unfolding recording
-moved-up rest n = (rw n refl, rw n refl)
+moved-down rest n = (rw n refl, rw n refl)
 
--- bar 7 makes room for bar 3. Fails: bar 3's velocity for the hits behind it, velocities that stay with the place
-moved-down : (rest : List ℕ) → length (1 ∷ 2 ∷ 7 ∷ 4 ∷ 2 ∷ 292 ∷ 1 ∷ 16422 ∷ 2 ∷ rest) ≡ 17154
+-- bar 7 moves up, to make room for bar 3. Fails: bar 3's velocity for the hits behind it, velocities that stay with the place
+moved-up : (rest : List ℕ) → length (1 ∷ 2 ∷ 7 ∷ 4 ∷ 2 ∷ 292 ∷ 1 ∷ 16422 ∷ 2 ∷ rest) ≡ 17154
     → Saves (1 ∷ 2 ∷ 7 ∷ 4 ∷ 2 ∷ 292 ∷ 1 ∷ 16422 ∷ 2 ∷ rest) 3 4 (36 ∷ []) (0 ∷ []) (127 ∷ []) (counted.Count 1)
     (2 ∷ 3 ∷ 3 ∷ 4 ∷ 1 ∷ 32548 ∷ 0 ∷ 7 ∷ 4 ∷ 2 ∷ 292 ∷ 1 ∷ 16422 ∷ 2 ∷ drop 5 rest)
 unfolding recording
-moved-down rest n = (rw n refl, rw n refl)
+moved-up rest n = (rw n refl, rw n refl)
 
 -- ---- written bytes depend on sound and step only
 

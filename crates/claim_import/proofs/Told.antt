@@ -18,7 +18,7 @@ use Rattle.midi_bars.specs.Loudness.{All-lists, beside}
 use Rattle.midi_bars.specs.Imports.{roomy-beside, import-into, import-answer, import-left}
 use Rattle.midi_read.specs.Tracks.{Within-rules}
 use Rattle.midi_bars.specs.Claims.{Holds-file}
-use Rattle.midi_bars.specs.Loud.{Holds-loudness}
+use Rattle.midi_bars.specs.Loud-claims.{Holds-loudness}
 use Rattle.midi_bars.proofs.Words.{file-held, import-accepted, read-exactly}
 use Rattle.midi_bars.proofs.Loud.{loudness-held, without, with-all}
 use Rattle.midi_import.specs.Promise.{Bars-imported}
@@ -143,7 +143,8 @@ module _ (steps quarter : ℕ) (file : List ℕ) (b : All-lists) (one : 1 ≤ st
         (import-into steps quarter file b) b (λ l read w.
         promised steps quarter file b out name ends found one
         (subst (λ m. Written-then-asked m out question.Phrase name ends name found a out′ found′)
-        (fronts-are steps quarter file (b .lists) (l .lists) one (without steps quarter file l (read-by steps quarter file b l read))) w) read)
+        (fronts-are steps quarter file (b .lists) (l .lists) one (without steps quarter file l (read-by steps quarter file b l read)))
+        w) read)
         (sym e ∙ told .reply) (told .left)
 
     -- the importer refused

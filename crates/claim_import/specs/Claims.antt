@@ -16,7 +16,7 @@ use Rattle.midi_bars.specs.Bars.{name-of}
 use Rattle.midi_bars.specs.Words.{Plays, Plays-phrase}
 use Rattle.midi_bars.specs.Loudness.{All-lists, beside}
 use Rattle.midi_bars.specs.Claims.{Holds-file}
-use Rattle.midi_bars.specs.Loud.{Holds-loudness}
+use Rattle.midi_bars.specs.Loud-claims.{Holds-loudness}
 use Rattle.claim_joint.specs.Own.{own}
 use Rattle.claim_joint.specs.Demand.{Those-that-meet}
 use Rattle.midi_import.specs.Promise.{Bars-imported}

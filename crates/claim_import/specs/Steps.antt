@@ -1,4 +1,5 @@
--- The fronts of the eight buffers, as many places as the importer's reply says; each name has four bytes.
+-- The fronts of the first eight buffers, which hold the writer's lists: as many places as the importer's reply says; each name has four
+-- bytes.
 use Prim.Native.Nat.{_*_, _≤_}
 use lib.ListN.{length, take}
 use Rattle.segment.specs.declared.replies.ListTotals.{ListTotals}

@@ -51,8 +51,8 @@ module _ (pad : List ℕ) (bars : List Bar) (h : held-bars pad ≡ ok bars) wher
 
   -- ---- the map afterwards
 
-  saved-holds : (id len : ℕ) (ss ts vs : List ℕ) {r : Counted} {pad′ : List ℕ} → Bar-saved pad id len ss ts vs r pad′ → (told : Result (List Bar))
-      → save bars id len ss ts vs ≡ told → held-bars pad′ ≡ ok (saved-map told bars)
+  saved-holds : (id len : ℕ) (ss ts vs : List ℕ) {r : Counted} {pad′ : List ℕ} → Bar-saved pad id len ss ts vs r pad′
+      → (told : Result (List Bar)) → save bars id len ss ts vs ≡ told → held-bars pad′ ≡ ok (saved-map told bars)
   saved-holds id len ss ts vs p (ok after) e = p .map after (save-by-map id len ss ts vs ∙ e)
   saved-holds id len ss ts vs p (refuse x) e =
       ap held-bars (p .words ∙ ap (λ q. saved-words q pad) (save-by-map id len ss ts vs ∙ e)) ∙ h

@@ -46,7 +46,8 @@ others-same : (id : ℕ) (pad pad′ : List ℕ) (bars after : List Bar) → hel
     → ((other : ℕ) → (other ≡ id → ⊥) → lookup after other ≡ lookup bars other) → Others-as-before id pad pad′
 others-same id pad pad′ bars after h h′ same other apart ss ts vs r ss′ ts′ vs′ p =
     let e : pad-read pad′ other (length ss) (length ts) (length vs) ≡ pad-read pad other (length ss) (length ts) (length vs) =
-    read-by-map pad′ after h′ other (length ss) (length ts) (length vs) ∙ read-same bars after other (length ss) (length ts) (length vs) (same other apart)
+    read-by-map pad′ after h′ other (length ss) (length ts) (length vs)
+    ∙ read-same bars after other (length ss) (length ts) (length vs) (same other apart)
     ∙ sym (read-by-map pad bars h other (length ss) (length ts) (length vs)) in
     record {
       reply = rw e at (p .reply);

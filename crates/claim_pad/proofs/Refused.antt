@@ -1,8 +1,10 @@
--- The map's refusals have other kinds than 20, saving's later ones other kinds than 18, and with room writing out others than 13.
+-- The map's refusals have other kinds than 20, saving's later ones other kinds than 18; which save is 22; and with room writing out has
+-- other kinds than 13.
 -- Assumes nothing.
 use mathlib.Core.Path.{_≡_, refl, sym, ap, _∙_}
 use mathlib.Core.Bool.{Bool, true, false, not, _&&_}
 use mathlib.Core.List.{List, [], _∷_}
+use mathlib.Core.Logic.{⊎-elim}
 use mathlib.Core.Option.{Option, none, some}
 use Prim.Native.Nat.{ℕ, _+_, _≤_}
 use native.Mathlib.Omega.{arith}
@@ -12,12 +14,14 @@ use borrow.Author.Tests.{leb-true, le-leb, eqb-true}
 use Rattle.common.proofs.Loops.{true-false, and-left, and-right}
 use Rattle.utf8.specs.Utf8.{utf8}
 use Rattle.segment.specs.Directory.{follows}
-use Rattle.segment.specs.Refusals.{invalid-layout, invalid-utf8, list-shape, too-large, no-room, unknown-bar, already-held, pad-full, velocity-range}
+use Rattle.segment.specs.Refusals.{invalid-layout, invalid-utf8, list-shape, too-large, no-room, unknown-bar, already-held, pad-full}
+use Rattle.segment.specs.Refusals.{velocity-range}
 use Rattle.segment.specs.Refusals.{broken-pad, empty-term, terms-not-increasing, positions-not-increasing, written-position-exceeds-length}
 use Rattle.segment.specs.Results.{Result, ok, refuse, _>>=_, check}
 use Rattle.segment.specs.Texts.{ends-fit, names}
 use Rattle.segment.specs.Written.{segment-bytes}
 use Rattle.segment.specs.declared.refusal.Refusal.{Refusal}
+use Rattle.segment.proofs.Refused.{ok-refuse, refused-by}
 use Rattle.segment.proofs.Shapes.{shape-is}
 use Rattle.calls.specs.Given.{given}
 use Rattle.calls.specs.Checks.{check-name, check-lists}
@@ -26,14 +30,16 @@ use Rattle.calls.proofs.Sizes.{segment-length}
 use Rattle.pad_map.specs.Bars.{Bar, lookup, hits-in-all}
 use Rattle.pad_map.specs.Rules.{all-up-to, all-audible, hits-rise, all-below, check-hits}
 use Rattle.pad_map.specs.Acts.{is-some, save, found, erase, read, write-out}
-use Rattle.pad_map.proofs.Saved.{small-test, even-test}
+use Rattle.pad_map.proofs.Saved.{small-test, even-test, absent}
+use Rattle.pad_map.proofs.Room.{other-passed}
+use Rattle.pad_map.proofs.Outside.{velocity-exactly}
 use Rattle.pad_words.specs.Words.{held}
 use Rattle.pad_words.specs.Whole.{Whole, whole}
 use Rattle.pad_words.specs.Calls.{held-bars, pad-save, pad-erase, pad-read, pad-write}
 use Rattle.pad_words.proofs.Exactly.{whole-exactly}
 use Rattle.claim_pad.specs.Written.{Names-shaped, map-lists}
 use Rattle.claim_pad.specs.Claims.{check-used, used-names, most-bytes}
-use Rattle.claim_pad.specs.Refusals.{Broken-exactly, Held-exactly, Never-short}
+use Rattle.claim_pad.specs.Refusals.{Broken-exactly, Held-exactly, Range-exactly, Never-short}
 use Rattle.claim_pad.proofs.Acting.{holds-own, save-by-map, erase-by-map, read-by-map, write-by-map}
 use Rattle.claim_pad.proofs.Writable.{names-decide}
 use Rattle.claim_pad.proofs.Sized.{pad-takes}
@@ -203,6 +209,40 @@ held-exactly pad id len ss ts vs = (
       let is = save-by-map pad (held pad) (own pad w) id len ss ts vs in
       (w, λ free. free-never (held pad) id len ss ts vs free .other already-held (sym is ∙ e) refl),
   λ (w, h). save-by-map pad (held pad) (own pad w) id len ss ts vs ∙ taken (held pad) id len ss ts vs (lookup (held pad) id) refl h,
+)
+
+-- ---- 22
+
+range-gives : (bars : List Bar) (id len : ℕ) (ss ts vs : List ℕ) → save bars id len ss ts vs ≡ refuse velocity-range
+    → (lookup bars id ≡ none) × (check-hits len ss ts vs ≡ refuse velocity-range)
+unfolding save
+range-gives bars id len ss ts vs e =
+    let (free, f) = other-passed (not (is-some (lookup bars id))) already-held _ (λ z. omega arith) e in (
+      absent (lookup bars id) free,
+      ⊎-elim
+          (λ r. r)
+          (λ (_, _, g).
+          let (_, h) = other-passed (ltb (length bars) 256 && leb (hits-in-all bars + length ss) 8192) pad-full _ (λ z. omega arith) g in
+          ok-refuse h)
+          (refused-by (check-hits len ss ts vs) _ f),
+    )
+
+range-from : (bars : List Bar) (id len : ℕ) (ss ts vs : List ℕ) → lookup bars id ≡ none
+    → check-hits len ss ts vs ≡ refuse velocity-range
+    → save bars id len ss ts vs ≡ refuse velocity-range
+unfolding save
+range-from bars id len ss ts vs free e = rw (free, e)
+
+pub range-exactly : Range-exactly
+unfolding pad-save
+range-exactly pad id len ss ts vs = (
+  λ e.
+      let w = other-whole pad _ (λ k. omega arith) e in
+      let (free, out) = range-gives (held pad) id len ss ts vs (sym (save-by-map pad (held pad) (own pad w) id len ss ts vs) ∙ e) in
+      (w, free, velocity-exactly len ss ts vs .0 out),
+  λ (w, free, out).
+      save-by-map pad (held pad) (own pad w) id len ss ts vs
+      ∙ range-from (held pad) id len ss ts vs free (velocity-exactly len ss ts vs .1 out),
 )
 
 -- ---- 13

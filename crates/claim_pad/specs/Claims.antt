@@ -1,5 +1,5 @@
 -- What is claimed of writing a pad out: of the lists that the writer is handed, of when it writes, and of the bytes; proved in
--- proofs/Writable.antt, Sized.antt, Hits.antt and Searched.antt.
+-- proofs/Writable.antt, Sized.antt, Alike.antt, Hits.antt and Searched.antt.
 use Prim.Native.Nat.{ℕ, _+_, _^_, _≤_}
 use mathlib.Core.Path.{_≡_}
 use mathlib.Core.List.{List, [], _∷_, map}
@@ -61,13 +61,6 @@ Only-names =
     (pad text ends : List ℕ) → Whole pad → Names-shaped text ends
     → Lists-fine (map-lists pad text ends) ↔ Names-fine (names 0 ends text) (held pad)
 
--- pads that differ in velocities alone are written alike: the same promise, refusals too, for any names and any room
-abbrev pub Written-alike : Type 0
-Written-alike =
-    (pad other : List ℕ) → Whole pad → Whole other → Bars-alike (held pad) (held other) → (text ends out : List ℕ) (r : Written)
-    (out′ : List ℕ)
-    → Pad-written pad text ends out r out′ ↔ Pad-written other text ends out r out′
-
 -- written exactly where no refusal is named
 abbrev pub Written-exactly : Type 0
 Written-exactly =
@@ -81,6 +74,13 @@ most-bytes text = 129608 + length text
 abbrev pub Always-enough : Type 0
 Always-enough =
     (pad text ends : List ℕ) (room : ℕ) (bytes : List ℕ) → pad-write pad text ends room ≡ ok bytes → length bytes ≤ most-bytes text
+
+-- pads that differ in velocities alone are written alike: the same promise, refusals too, for any names and any room
+abbrev pub Written-alike : Type 0
+Written-alike =
+    (pad other : List ℕ) → Whole pad → Whole other → Bars-alike (held pad) (held other) → (text ends out : List ℕ) (r : Written)
+    (out′ : List ℕ)
+    → Pad-written pad text ends out r out′ ↔ Pad-written other text ends out r out′
 
 -- ---- what was written, and the search
 

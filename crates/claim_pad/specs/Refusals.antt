@@ -1,13 +1,14 @@
--- Document 02, wish 6: when the calls on a pad answer 20, when saving answers 18, and when writing out does not answer 13, in words; proved
--- in proofs/Refused.antt.
+-- Document 02, wishes 6 and 9: when the calls on a pad answer 20, when saving answers 18 and 22, and when writing out does not answer 13,
+-- in words; proved in proofs/Refused.antt.
 use Prim.Native.Nat.{ℕ, _≤_}
 use mathlib.Core.Path.{_≡_}
 use mathlib.Core.List.{List}
 use mathlib.Core.Logic.{_↔_}
 use mathlib.Core.Option.{none}
-use Rattle.segment.specs.Refusals.{no-room, already-held, broken-pad}
+use Rattle.segment.specs.Refusals.{no-room, already-held, broken-pad, velocity-range}
 use Rattle.segment.specs.Results.{refuse}
 use Rattle.pad_map.specs.Bars.{lookup}
+use Rattle.pad_map.specs.Claims.{Velocity-out}
 use Rattle.pad_words.specs.Words.{held}
 use Rattle.pad_words.specs.Whole.{Whole}
 use Rattle.pad_words.specs.Calls.{pad-save, pad-erase, pad-read, pad-write}
@@ -30,6 +31,14 @@ abbrev pub Held-exactly : Type 0
 Held-exactly =
     (pad : List ℕ) (id len : ℕ) (sounds steps velocities : List ℕ)
     → (pad-save pad id len sounds steps velocities ≡ refuse already-held) ↔ (Whole pad × (lookup (held pad) id ≡ none → ⊥))
+
+-- saving answers 22 exactly where a pad does not hold the id, the lists are side by side, every sound is at most 127 and some velocity is
+-- outside its range
+abbrev pub Range-exactly : Type 0
+Range-exactly =
+    (pad : List ℕ) (id len : ℕ) (sounds steps velocities : List ℕ)
+    → (pad-save pad id len sounds steps velocities ≡ refuse velocity-range)
+    ↔ (Whole pad × (lookup (held pad) id ≡ none) × Velocity-out sounds steps velocities)
 
 -- a slice of so many places is never too short, whatever the pad and the names
 abbrev pub Never-short : Type 0

@@ -27,7 +27,8 @@ use Rattle.midi_bars.specs.Loudness.{greatest, All-lists, loudest, veloc
 use Rattle.midi_bars.specs.Imports.{import-file, import-all}
 use Rattle.midi_bars.specs.Words.{division}
 use Rattle.midi_bars.specs.Claims.{Hits-fine}
-use Rattle.midi_bars.specs.Loud.{eight, Lists-stayed, Loudest, Spot, spot, spots, Holds-loudness, Loudness-held}
+use Rattle.midi_bars.specs.Loud-claims.{for-the-writer, Lists-stayed, Loudest, Position-under, position-under, all-positions}
+use Rattle.midi_bars.specs.Loud-claims.{Holds-loudness, Loudness-held}
 use Rattle.midi_bars.proofs.Nested.{map-joined, joined-twice, parts-give}
 use Rattle.midi_bars.proofs.Struck.{stands-for, on-true, on-gives, position-gives, position-below}
 use Rattle.midi_bars.proofs.Fine.{read-fine}
@@ -76,19 +77,20 @@ record Cell : Type 0 where
 abbrev cell : (note bar position : ℕ) → Cell
 cell n b p = record { note = n; bar = b; position = p }
 
-abbrev spot-of : Cell → Spot
-spot-of c = spot (name-of (c .note)) (c .bar) (c .position)
+abbrev spot-of : Cell → Position-under
+spot-of c = position-under (name-of (c .note)) (c .bar) (c .position)
 
 -- the positions of any lists stand in the order of the places
-positions-there : (g : Given) → map (λ (s : Spot). s .position) (spots g) ≡ laid-flat g .positions
+positions-there : (g : Given) → map (λ (s : Position-under). s .position) (all-positions g) ≡ laid-flat g .positions
 unfolding laid-flat
 positions-there g =
     let under : Term → List (List ℕ) = λ t. map (λ p. p .positions) (t .postings) in
-    map-joined (λ (s : Spot). s .position) (λ t. joined (map (λ p. map (spot (t .name) (p .doc)) (p .positions)) (t .postings))) (g .terms)
+    map-joined (λ (s : Position-under). s .position)
+    (λ t. joined (map (λ p. map (position-under (t .name) (p .doc)) (p .positions)) (t .postings))) (g .terms)
     ∙ ap joined (map-same _ (λ t. joined (under t)) (g .terms) (λ t m.
-    map-joined (λ (s : Spot). s .position) (λ (p : Posting). map (spot (t .name) (p .doc)) (p .positions)) (t .postings)
+    map-joined (λ (s : Position-under). s .position) (λ (p : Posting). map (position-under (t .name) (p .doc)) (p .positions)) (t .postings)
     ∙ ap joined (map-same _ (λ p. p .positions) (t .postings) (λ p k.
-    map-map (λ (s : Spot). s .position) (spot (t .name) (p .doc)) (p .positions) ∙ map-id (p .positions)))))
+    map-map (λ (s : Position-under). s .position) (position-under (t .name) (p .doc)) (p .positions) ∙ map-id (p .positions)))))
     ∙ sym (joined-twice under (g .terms))
     ∙ ap joined (sym (map-joined (λ (p : Posting). p .positions) (λ (t : Term). t .postings) (g .terms)))
 
@@ -111,18 +113,20 @@ module _ (g : Grid) (hs : List Hit) where
   unfolding velocities-of
   velocities-are = sym (by-cells loud-of)
 
-  spots-are : spots (given (lists-of g hs)) ≡ map spot-of cells
+  spots-are : all-positions (given (lists-of g hs)) ≡ map spot-of cells
   unfolding given-of
   spots-are =
-      ap spots (stands-for g hs)
+      ap all-positions (stands-for g hs)
       ∙ ap joined (map-map _ (term-of g hs) (sounds-of g hs)
       ∙ map-same _ _ (sounds-of g hs) (λ n m.
-      ap joined (map-map (λ (p : Posting). map (spot (name-of n) (p .doc)) (p .positions)) (posting-of g hs n) (bars-of g hs n))))
+      ap joined (map-map (λ (p : Posting). map (position-under (name-of n) (p .doc)) (p .positions)) (posting-of g hs n) (bars-of g hs n))))
       ∙ sym (by-cells spot-of)
 
-  positions-are : map (λ (s : Spot). s .position) (spots (given (lists-of g hs))) ≡ lists-of g hs .positions
+  positions-are : map (λ (s : Position-under). s .position) (all-positions (given (lists-of g hs))) ≡ lists-of g hs .positions
   unfolding lists-of
-  positions-are = ap (λ (x : Given). map (λ (s : Spot). s .position) (spots x)) (stands-for g hs) ∙ positions-there (given-of g hs)
+  positions-are =
+      ap (λ (x : Given). map (λ (s : Position-under). s .position) (all-positions x)) (stands-for g hs)
+      ∙ positions-there (given-of g hs)
 
   pub velocities-many : length (velocities-of g hs) ≡ length (lists-of g hs .positions)
   velocities-many =
@@ -132,7 +136,7 @@ module _ (g : Grid) (hs : List Hit) where
         length-map cells loud-of,
         length-map cells spot-of,
         ap length spots-are,
-        length-map (spots (given (lists-of g hs))) (λ (s : Spot). s .position),
+        length-map (all-positions (given (lists-of g hs))) (λ (s : Position-under). s .position),
         ap length positions-are,
       )
 
@@ -179,11 +183,11 @@ module _ (steps quarter : ℕ) (file : List ℕ) (hs : List Hit) where
       → Loudest quarter file hs (c .note) (steps * c .bar + c .position) (loud-of own-grid hs c)
   loud-cell c m = loudest-there (c .note) (c .bar) (c .position) (in-cells own-grid hs c m)
 
-  abbrev Beside : Spot → (velocity : ℕ) → Type 0
+  abbrev Beside : Position-under → (velocity : ℕ) → Type 0
   Beside s v = (note : ℕ) × (s .name ≡ name-of note) × Loudest quarter file hs note (steps * s .bar + s .position) v
 
   beside-so : (i : ℕ) → i < length (velocities-of own-grid hs)
-      → Beside (getD (spots (given (lists-of own-grid hs))) i (spot [] 0 0)) (getD (velocities-of own-grid hs) i 0)
+      → Beside (getD (all-positions (given (lists-of own-grid hs))) i (position-under [] 0 0)) (getD (velocities-of own-grid hs) i 0)
   beside-so i l =
       let cs = cells own-grid hs in
       let c = getD cs i (cell 0 0 0) in
@@ -191,7 +195,7 @@ module _ (steps quarter : ℕ) (file : List ℕ) (hs : List Hit) where
       rw (
         spots-are own-grid hs,
         velocities-are own-grid hs,
-        map-at spot-of cs i (spot [] 0 0) (cell 0 0 0) below,
+        map-at spot-of cs i (position-under [] 0 0) (cell 0 0 0) below,
         map-at (loud-of own-grid hs) cs i 0 (cell 0 0 0) below,
       )
       (c .note, refl, loud-cell c (at-place (cell 0 0 0) cs i below))
@@ -208,7 +212,7 @@ module _ (steps quarter : ℕ) (file : List ℕ) (hs : List Hit) where
     as-many = velocities-many own-grid hs;
     places = positions-are own-grid hs;
     audible = audible-so fine;
-    beside = beside-so;
+    each-loudest = beside-so;
   }
 
 -- ---- a file that is read
@@ -217,24 +221,24 @@ pub lists-stayed : Lists-stayed
 unfolding import-all import-file
 lists-stayed steps quarter file = step (chunks steps quarter file)
   where
-    after : (g : Grid) (r : Result (List Hit)) → eight (r >>= (λ hs. ok (all-of g hs))) ≡ (r >>= (λ hs. ok (lists-of g hs)))
+    after : (g : Grid) (r : Result (List Hit)) → for-the-writer (r >>= (λ hs. ok (all-of g hs))) ≡ (r >>= (λ hs. ok (lists-of g hs)))
     after g (ok hs) = refl
     after g (refuse x) = refl
 
     step : (r : Result Grid)
-        → eight (r >>= (λ g. hits g file >>= (λ hs. ok (all-of g hs)))) ≡ (r >>= (λ g. hits g file >>= (λ hs. ok (lists-of g hs))))
+        → for-the-writer (r >>= (λ g. hits g file >>= (λ hs. ok (all-of g hs)))) ≡ (r >>= (λ g. hits g file >>= (λ hs. ok (lists-of g hs))))
     step (ok g) = after g (hits g file)
     step (refuse x) = refl
 
 -- read with the velocities, and without
 module _ (steps quarter : ℕ) (file : List ℕ) where
   pub without : (a : All-lists) → import-all steps quarter file ≡ ok a → import-file steps quarter file ≡ ok (a .lists)
-  without a e = sym (lists-stayed steps quarter file) ∙ ap eight e
+  without a e = sym (lists-stayed steps quarter file) ∙ ap for-the-writer e
 
   pub with-all : (l : Lists) → import-file steps quarter file ≡ ok l → (a : All-lists) × (import-all steps quarter file ≡ ok a)
   with-all l e = step (import-all steps quarter file) (lists-stayed steps quarter file ∙ e)
     where
-      step : (r : Result All-lists) → eight r ≡ ok l → (a : All-lists) × (r ≡ ok a)
+      step : (r : Result All-lists) → for-the-writer r ≡ ok l → (a : All-lists) × (r ≡ ok a)
       step (ok a) e = (a, refl)
       step (refuse x) e = refuse-ok e
 

@@ -1,4 +1,4 @@
--- A MIDI file read into the lists that the writer takes: what is answered, refusals in document 02's order.
+-- A MIDI file read into the lists that the writer takes, and the velocities: what is answered, refusals in document 02's order.
 use Prim.Native.Nat.{ℕ}
 use mathlib.Core.List.{List}
 use lib.ListN.{length}

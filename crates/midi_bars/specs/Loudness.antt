@@ -23,7 +23,7 @@ abbrev pub beside : Lists → (velocities : List ℕ) → All-lists
 beside l v = record { lists = l; velocities = v }
 
 module _ (g : Grid) (hs : List Hit) where
-  -- of the hits of a sound in a bar on a position
+  -- the greatest velocity of the hits of a sound in a bar on a position
   abbrev pub loudest : (note bar position : ℕ) → ℕ
   loudest n b p = greatest (map (λ h. h .velocity) (kept (on-position g n b p) hs))
 

@@ -14,7 +14,7 @@ use Rattle.midi_count.specs.Tallies.{fresh, opens, raised}
 abbrev pub in-last : (more new before : ℕ) → ℕ
 in-last more new before = cond (eqb more 0) (before + new) new
 
--- the loudest hit of the last step, the new one among them
+-- the greatest velocity on the last step, the new one among them
 abbrev pub loud-last : (new held velocity : ℕ) → ℕ
 loud-last new held v = cond (eqb new 0) (greater held v) v
 
@@ -22,8 +22,8 @@ loud-last new held v = cond (eqb new 0) (greater held v) v
 abbrev pub place : (starts : List ℕ) (note held : ℕ) → ℕ
 place starts n held = getD starts n 0 + held - 1
 
--- the tables (the counting pass's, the positions in a sound's last bar, the loudest hit of its last step) and the lists, as the functions
--- take them
+-- the tables (the counting pass's, the positions in a sound's last bar, the greatest velocity on its last step) and the lists, as the
+-- functions take them
 pub record Buffers : Type 0 where
   pub last : List ℕ
   pub postings : List ℕ

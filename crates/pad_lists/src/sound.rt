@@ -1,6 +1,6 @@
 // The postings of one sound: each bar that has it, by rising id, with the steps of its hits of that sound.
 use common::widths::long;
-use pad_words::layout::VELOCITY;
+use pad_words::layout::VELOCITY_UNIT;
 ghost use mathlib.Core.Path.{_≡_};
 ghost use mathlib.Core.Bool.{cond};
 ghost use Prim.Native.Nat.{_+_, _<_};
@@ -33,7 +33,7 @@ fn gather_run(
     let mut next = filled;
     let mut taken: usize = 0;
     while taken < remaining {
-        if pad[at] % VELOCITY != sound {
+        if pad[at] % VELOCITY_UNIT != sound {
             return next;
         }
         positions[next] = pad[at + 1];

@@ -141,7 +141,7 @@ check-exactly len ss ts vs = (checked-gives len ss ts vs, checked-from len ss ts
 
 -- ---- saving
 
-absent : (o : Option Bar) → not (is-some o) ≡ true → o ≡ none
+pub absent : (o : Option Bar) → not (is-some o) ≡ true → o ≡ none
 absent none e = refl
 absent (some b) e = true-false (sym e)
 

@@ -1,7 +1,7 @@
 // A bar read back: its length, and its hits into three lent lists.
 use common::widths::long;
 use pad_words::check::is_whole;
-use pad_words::layout::VELOCITY;
+use pad_words::layout::VELOCITY_UNIT;
 use pad_words::place::Place;
 use pad_words::place::place_of;
 use segment::refusal::broken_pad;
@@ -15,7 +15,7 @@ ghost use Rattle.pad_words.specs.Words.{hits-of};
 ghost use Rattle.pad_read.specs.Promise.{Bar-read-back};
 ghost use Rattle.pad_read.specs.Steps.{low-byte, Fillable, Hits-filled};
 
-// The low byte of a word: a hit's sound, or its velocity, which is at most 127 where the words are a pad.
+// The low byte: of a hit's first word its sound, of that word / 256 its velocity, which is at most 127 where the words are a pad.
 fn narrow(x: u32) -> u8
     ensures { λ r. ⌜ r ≡ low-byte x ⌝ }
 {
@@ -41,7 +41,7 @@ fn fill_hits(
         let word = pad[at];
         sounds[i] = narrow(word);
         steps[i] = pad[at + 1];
-        velocities[i] = narrow(word / VELOCITY);
+        velocities[i] = narrow(word / VELOCITY_UNIT);
         at += 2;
         i += 1;
     }

@@ -77,7 +77,8 @@ module _ (pad : List ℕ) (w : Whole pad) where
         each = λ c k. fine c (a .lists .fine) (insert-gives b (held pad) c k);
       }))
     where
-      fine : (c : Bar) → Hits-fine len (hits-in ss ts vs) → (c ≡ bar id len (hits-in ss ts vs)) ⊎ (c ∈ held pad) → Hits-fine (c .len) (c .hits)
+      fine : (c : Bar) → Hits-fine len (hits-in ss ts vs) → (c ≡ bar id len (hits-in ss ts vs)) ⊎ (c ∈ held pad)
+          → Hits-fine (c .len) (c .hits)
       fine c f (inl y) = rw y f
       fine c f (inr k) = w .each c k
 

@@ -99,7 +99,8 @@ module _ (pad : List ℕ) (id len : ℕ) (ss ts vs : List ℕ) where
               save-is
               ∙ rw (absent, e, held-many pad, total-is pad w, lt-ltb (getD pad 0 0) 256 h, lt-leb (getD pad 1 0 + length ss) 8192 k)
 
-          pub save-fine : getD pad 1 0 + length ss ≤ 8192 → pad-save pad id len ss ts vs ≡ ok (insert (bar id len (hits-in ss ts vs)) (held pad))
+          pub save-fine : getD pad 1 0 + length ss ≤ 8192
+              → pad-save pad id len ss ts vs ≡ ok (insert (bar id len (hits-in ss ts vs)) (held pad))
           unfolding save
           save-fine k =
               save-is

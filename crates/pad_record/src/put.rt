@@ -1,6 +1,6 @@
 // A bar's words stored.
 use crate::moves::move_up;
-use pad_words::layout::VELOCITY;
+use pad_words::layout::VELOCITY_UNIT;
 ghost use mathlib.Core.Path.{_≡_};
 ghost use Prim.Native.Nat.{_+_, _*_};
 ghost use Rattle.common.specs.Slices.{was, left};
@@ -12,7 +12,7 @@ ghost use Rattle.pad_record.specs.Steps.{Put, Hits-room, Bar-room, Bar-p
 fn first_word(sound: u8, velocity: u8) -> u32
     ensures { λ r. ⌜ r ≡ sound + 256 * velocity ⌝ }
 {
-    sound as u32 + VELOCITY * velocity as u32
+    sound as u32 + VELOCITY_UNIT * velocity as u32
 }
 
 // The hits from an offset on.

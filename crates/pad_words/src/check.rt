@@ -1,7 +1,7 @@
 // Whether the words are a pad: kind 20.
 use crate::layout::BARS;
 use crate::layout::HITS;
-use crate::layout::VELOCITY;
+use crate::layout::VELOCITY_UNIT;
 use crate::layout::WORDS;
 use common::widths::long;
 use pad_rules::order::follows;
@@ -56,7 +56,7 @@ fn hits_fine(pad: &[u32], from: usize, count: usize, len: u32) -> bool
     while i < count {
         let word = pad[at];
         let step = pad[at + 1];
-        let sound = word % VELOCITY;
+        let sound = word % VELOCITY_UNIT;
         if !hit_fine(
             len,
             i == 0,
@@ -64,7 +64,7 @@ fn hits_fine(pad: &[u32], from: usize, count: usize, len: u32) -> bool
             step_before,
             sound,
             step,
-            word / VELOCITY,
+            word / VELOCITY_UNIT,
         ) {
             return false;
         }

@@ -8,7 +8,7 @@ pub const HITS: usize = 8192;
 pub const SOUNDS: usize = 128;
 
 // A hit's first word is its sound and so many times its velocity.
-pub const VELOCITY: u32 = 256;
+pub const VELOCITY_UNIT: u32 = 256;
 
 // 2 words, 3 for each bar, 2 for each hit.
 pub const WORDS: usize = 17154;

@@ -1,7 +1,7 @@
 // Replays a stored list of MIDI files against this library, through the C interface: all seven numbers of each reply, and every place of
-// the eight lent buffers. The list is data/cases, made by `oracle/run PATH --midi-sample FILE` from a model of document 02's words;
-// oracle/README.md has its format. The totals that the program must write stand in the file stdout: totals.py counts them from the list,
-// and no run does. Over what replay_list has, read in this order:
+// the eight lent buffers that hold the writer's lists; velocities are lent and not compared. The list is data/cases, made by
+// `oracle/run PATH --midi-sample FILE` from a model of document 02's words; oracle/README.md has its format. The totals that the program
+// must write stand in the file stdout: totals.py counts them from the list, and no run does. Over what replay_list has, read in this order:
 //   case     the fields of a case, and where the parts of its data lie
 //   run      a case's call, made and compared
 mod case;

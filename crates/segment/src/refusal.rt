@@ -5,7 +5,8 @@ ghost use mathlib.Core.Path.{_≡_};
 ghost use Rattle.segment.specs.Refusals.{truncated, invalid-magic, unsupported-version, unsupported-flags, checksum-mismatch};
 ghost use Rattle.segment.specs.Refusals.{invalid-layout, invalid-varint, doc-id-overflow, position-overflow, invalid-utf8};
 ghost use Rattle.segment.specs.Refusals.{list-shape, too-large, no-room, midi-file, bar-too-far};
-ghost use Rattle.segment.specs.Refusals.{unknown-bar, bar-too-long, already-held, pad-full, broken-pad, ids-not-rising, velocity-range};
+ghost use Rattle.segment.specs.Refusals.{unknown-bar, bar-too-long, already-held, pad-full, broken-pad, ids-not-rising};
+ghost use Rattle.segment.specs.Refusals.{velocity-range};
 
 pub struct Refusal {
     pub kind: u32,

@@ -29,7 +29,8 @@ extern "C" {
 }
 
 pub(crate) fn midi_bars(file: &[u8], lists: &mut Lists, velocities: &mut [u8]) -> Reply {
-    // SAFETY: a slice that is only read, and nine lent ones, apart from it by `&mut` and from each other as vectors of their own.
+    // SAFETY: a slice that is only read, and nine lent ones, apart from it by `&mut`; the eight are apart from each other as vectors of
+    // their own, the ninth by its own `&mut`.
     unsafe {
         pstp_midi_bars(
             file.as_ptr(),

@@ -197,7 +197,13 @@ put-bar-requires c κs =
     let one = l .before .before .long .ensures in
     let two = l .long2 .ensures in
     record {
-      order = omega (arith, one, two, save-offset (words e) (a .id) (a .length) (now (a .sounds)) (now (a .steps)) (now (a .velocities)) (is-one e) (free k));
+      order =
+          omega (
+            arith,
+            one,
+            two,
+            save-offset (words e) (a .id) (a .length) (now (a .sounds)) (now (a .steps)) (now (a .velocities)) (is-one e) (free k),
+          );
       room = omega (arith, o, one, two, f .before .if2 .left, f .if3 .left);
       words = o .words;
       as-many-steps = p .side-by-side .as-many-steps;

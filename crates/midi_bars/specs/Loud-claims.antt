@@ -15,13 +15,14 @@ use Rattle.midi_bars.specs.Loudness.{All-lists}
 use Rattle.midi_bars.specs.Imports.{import-file, import-all}
 use Rattle.midi_bars.specs.Words.{Plays}
 
--- the same files are read, the others are refused the same way, and the lists that the writer takes are the same
-abbrev pub eight : Result All-lists → Result Lists
-eight (ok a) = ok (a .lists)
-eight (refuse x) = refuse x
+-- the lists that the writer takes
+abbrev pub for-the-writer : Result All-lists → Result Lists
+for-the-writer (ok a) = ok (a .lists)
+for-the-writer (refuse x) = refuse x
 
+-- the same files are read, the others are refused the same way, and the lists that the writer takes are the same
 abbrev pub Lists-stayed : Type 0
-Lists-stayed = (steps quarter : ℕ) (file : List ℕ) → eight (import-all steps quarter file) ≡ import-file steps quarter file
+Lists-stayed = (steps quarter : ℕ) (file : List ℕ) → for-the-writer (import-all steps quarter file) ≡ import-file steps quarter file
 
 -- a velocity that one of the file's hits of this note on this step has, and none of them passes: of equal hits the loudest
 pub record Loudest (quarter : ℕ) (file : List ℕ) (hs : List Hit) (note step velocity : ℕ) : Type 0 where
@@ -30,24 +31,24 @@ pub record Loudest (quarter : ℕ) (file : List ℕ) (hs : List Hit) (note step 
   pub none-louder : (other : Plays quarter file hs note step) → other .hit .velocity ≤ velocity
 
 -- the places of the lists, in order: each position with the name and the bar that it stands under
-pub record Spot : Type 0 where
+pub record Position-under : Type 0 where
   pub name : List ℕ
   pub bar : ℕ
   pub position : ℕ
 
-abbrev pub spot : (name : List ℕ) (bar position : ℕ) → Spot
-spot n b p = record { name = n; bar = b; position = p }
+abbrev pub position-under : (name : List ℕ) (bar position : ℕ) → Position-under
+position-under n b p = record { name = n; bar = b; position = p }
 
-abbrev pub spots : Given → List Spot
-spots g = joined (map (λ t. joined (map (λ p. map (spot (t .name) (p .doc)) (p .positions)) (t .postings))) (g .terms))
+abbrev pub all-positions : Given → List Position-under
+all-positions g = joined (map (λ t. joined (map (λ p. map (position-under (t .name) (p .doc)) (p .positions)) (t .postings))) (g .terms))
 
 pub record Holds-loudness (steps quarter : ℕ) (file : List ℕ) (hs : List Hit) (a : All-lists) : Type 0 where
   -- side by side with the positions
   pub as-many : length (a .velocities) ≡ length (a .lists .positions)
-  pub places : map (λ s. s .position) (spots (given (a .lists))) ≡ a .lists .positions
+  pub places : map (λ s. s .position) (all-positions (given (a .lists))) ≡ a .lists .positions
   pub audible : (velocity : ℕ) → velocity ∈ a .velocities → (1 ≤ velocity) × (velocity ≤ 127)
   -- beside each position that of the loudest hit of its sound on its step
-  pub beside : (i : ℕ) → i < length (a .velocities) → let s = getD (spots (given (a .lists))) i (spot [] 0 0) in
+  pub each-loudest : (i : ℕ) → i < length (a .velocities) → let s = getD (all-positions (given (a .lists))) i (position-under [] 0 0) in
       (note : ℕ) × (s .name ≡ name-of note) × Loudest quarter file hs note (steps * s .bar + s .position) (getD (a .velocities) i 0)
 
 -- of every file that is read, whatever the two numbers
