@@ -162,16 +162,10 @@ enum {
  * A name is any UTF-8 text, without a terminating 0. The names of a question are one text and, for each name, the offset in it where that
  * name ends: "kick" and "snare" are the text "kicksnare" with ends 4, 9. A name begins where the one before it ends, the first at 0; the
  * last ends where the text ends. A questioned name may be empty: no segment has such a term. Each name is checked for UTF-8 by itself.
- *
- * A number in the metadata or in a list is unsigned LEB128 of 1 to 5 bytes. It is in a long form if it has more bytes than its value needs,
- * that is two to five bytes of which the last is 00: 80 00 is a long form of 0; 00 is none, and neither is FF FF FF FF 0F, the largest
- * number. Long forms are read like any other. pstp_open and pstp_term_postings return how many numbers are in one, however many bytes each
- * has too many. A segment that this library wrote shows 0 everywhere, so one that shows more was not written by it; 0 does not say who
- * wrote it. Numbers of fixed width (header, directory) have no forms.
  */
 
 /* Opens a segment: checks header, checksums, documents and directory; posting lists are not decoded.
- * first: number of documents; second: number of terms; third: number of long forms in the metadata, among both numbers of each document.
+ * first: number of documents; second: number of terms.
  * Refusals: opening. */
 pstp_reply pstp_open(const uint8_t *segment, size_t segment_len);
 
@@ -199,8 +193,7 @@ pstp_reply pstp_docs_with_term(const uint8_t *segment, size_t segment_len, const
 
 /* A term's postings: for each document that contains it, by increasing id, its positions there, increasing.
  * first: number of postings, each with one element of ids and of counts; second: number of positions of all postings, which follow each
- * other in positions, counts[i] of them for ids[i]; third: number of long forms in the bytes of this list, among id gaps, counts and
- * position gaps. All 0 for an unknown term.
+ * other in positions, counts[i] of them for ids[i]. Both 0 for an unknown term.
  * Refusals: 12; 10; opening; decoding the list; 13/1 ids, 13/2 counts, 13/3 positions. */
 pstp_reply pstp_term_postings(const uint8_t *segment, size_t segment_len, const uint8_t *name, size_t name_len, uint32_t *ids,
                               size_t ids_len, uint32_t *counts, size_t counts_len, uint32_t *positions, size_t positions_len);
@@ -281,9 +274,8 @@ typedef struct pstp_handle {
     size_t lists;       /* accepted: where the lists begin */
 } pstp_handle;
 
-/* Opens a segment as pstp_open does, at about the same cost.
- * A handle with PSTP_LEVEL_OPENED. It serves a segment of which some list does not decode, or one that is asked little. A handle does not
- * have the number of long forms in the metadata.
+/* Opens a segment as pstp_open does, at the same cost.
+ * A handle with PSTP_LEVEL_OPENED. It serves a segment of which some list does not decode, or one that is asked little.
  * Refusals, as kind, which and index of a handle with PSTP_LEVEL_REFUSED: opening. */
 pstp_handle pstp_open_once(const uint8_t *segment, size_t segment_len);
 
@@ -295,7 +287,7 @@ pstp_handle pstp_open_once(const uint8_t *segment, size_t segment_len);
 pstp_handle pstp_check(const uint8_t *segment, size_t segment_len);
 
 /* The eight calls with a handle. Each is lent the same buffers as the call without _checked, and with a handle of these bytes has its first
- * to third, and its refusals in their order. */
+ * and second, and its refusals in their order. */
 
 /* One document's length: as pstp_document_len. */
 pstp_reply pstp_document_len_checked(const uint8_t *segment, size_t segment_len, pstp_handle handle, uint32_t id);
@@ -307,7 +299,7 @@ pstp_reply pstp_df_checked(const uint8_t *segment, size_t segment_len, pstp_hand
 pstp_reply pstp_docs_with_term_checked(const uint8_t *segment, size_t segment_len, pstp_handle handle, const uint8_t *name,
                                        size_t name_len, uint32_t *ids, size_t ids_len);
 
-/* A term's postings, and the number of long forms in its list: as pstp_term_postings. */
+/* A term's postings: as pstp_term_postings. */
 pstp_reply pstp_term_postings_checked(const uint8_t *segment, size_t segment_len, pstp_handle handle, const uint8_t *name,
                                       size_t name_len, uint32_t *ids, size_t ids_len, uint32_t *counts, size_t counts_len,
                                       uint32_t *positions, size_t positions_len);

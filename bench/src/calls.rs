@@ -84,7 +84,7 @@ pub fn all(id: u32) -> Vec<Call> {
 }
 
 /// What a call answers: its numbers, what it lists, and what it draws.
-#[derive(Clone, Debug, Default, PartialEq, Eq)]
+#[derive(Debug, Default, PartialEq, Eq)]
 pub struct Answer {
     pub numbers: Vec<u64>,
     pub lists: Vec<Vec<u32>>,

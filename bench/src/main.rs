@@ -10,12 +10,11 @@
 //!   bench ranked [--quick]             the best bars first
 //!   bench pad                          a pad to record on
 //!   bench lookup [--quick]             the length lookup for the menu
-//!   bench forms [--quick]              cards written by other tools
 //!   bench checksum                     bytes a second
 //!   bench stack                        the stack of every call
 //! Read in this order: data, calls, library, drawn, counted, originals, measure, compare, checksum, limits, plain, midi, sheet, stack,
 //! report, text; then words, handles, fts5, often, growth, report_often; then ranked, orders, report_ranked; then plain_pad, pad,
-//! report_pad; then lookup, report_lookup; then forms, report_forms.
+//! report_pad; then lookup, report_lookup.
 mod again;
 mod calls;
 mod checksum;
@@ -23,7 +22,6 @@ mod compare;
 mod counted;
 mod data;
 mod drawn;
-mod forms;
 #[cfg(sqlite)]
 mod fts5;
 #[cfg(not(sqlite))]
@@ -44,7 +42,6 @@ mod plain;
 mod plain_pad;
 mod ranked;
 mod report;
-mod report_forms;
 mod report_lookup;
 mod report_often;
 mod report_pad;
@@ -139,7 +136,6 @@ fn main() {
         }
         [only] if only == "pad" => return report_pad::section(&pad::all(15)),
         [only, how @ ..] if only == "lookup" => return report_lookup::section(&lookup::all(!how.is_empty())),
-        [only, how @ ..] if only == "forms" => return report_forms::section(&forms::all(!how.is_empty())),
         [only, how @ ..] if only == "often" => {
             let sizes = often::all(!how.is_empty());
             return report_often::section(&sizes, &growth::all(&sizes, !how.is_empty()));
@@ -171,8 +167,6 @@ fn main() {
     let pads = pad::all(if quick { 5 } else { 15 });
 
     let lookups = lookup::all(quick);
-
-    let cards = forms::all(quick);
 
     let checksums = checksum::all(&[4096, if quick { 1 << 20 } else { 1 << 24 }], if quick { 5 } else { 15 });
 
@@ -210,8 +204,6 @@ fn main() {
     report_pad::section(&pads);
     println!("\n## Length lookup for the menu\n");
     report_lookup::section(&lookups);
-    println!("\n## Cards written by other tools\n");
-    report_forms::section(&cards);
     println!("\n## Stack and code\n\n{}", text::STACK);
     report::stack(&depths());
     println!("\nThe library's machine code has {} bytes, its constants {}.", report::grouped(code), report::grouped(constants));

@@ -184,16 +184,6 @@ pub const LOOKUP_AIM: &str = "\
 Linear in the number of ids: from one number to sixteen times as many, the nanoseconds an id at most double. The largest factor of all:
 ";
 
-pub const CARDS: &str = "\
-A stored number may stand in more bytes than it needs: a long form, which the library's writer and the Rust's never use. `open` counts
-those of the metadata, and `term_postings` those of its list (document 02, wish 10); the Rust reads them and counts nothing. In the first
-row of each table no number stands in a long form, as in every segment of a writer; in the next every number has one byte more than it
-needs; in the last every number has five. More bytes also take longer for their checksums, on every side. Ids rise by 1 to 3, and a bar has
-16 to 64 steps: without sounds for `open`, so that all but 72 bytes are metadata, and for `term_postings` with one sound, on one to three
-steps of each bar. `open_once` answers no count. Answers and counts were compared first. Nanoseconds are those of a number of the
-metadata, or of the list.
-";
-
 pub const STACK: &str = "\
 The library allocates nothing. What a call touches of the stack, measured on a painted one, over 1,000 documents, over a MIDI file of
 65,536 bytes with hits of all notes, and over a full pad; in the last two columns with a handle. Bytes:

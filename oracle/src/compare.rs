@@ -1,7 +1,6 @@
 //! One call by both, compared: the reply's numbers and every lent place.
 
 use crate::case::{Call, Case, Kept, Room};
-use crate::forms::Forms;
 use crate::handle::{self, Handles};
 use crate::lent::Buffers;
 use crate::library;
@@ -43,8 +42,6 @@ pub struct Runner {
     pub ranked: Ranked,
     /// The handles of the same segments, and the same calls with them.
     pub handles: Handles,
-    /// The same segments in shortest forms, where they have others.
-    pub forms: Forms,
 }
 
 impl Runner {
@@ -60,22 +57,16 @@ impl Runner {
             sheets: Sheets::new(seed),
             ranked: Ranked::new(seed),
             handles: Handles::new(),
-            forms: Forms::new(),
         }
     }
 
-    /// Runs the library with buffers of these lengths, then on the segment in shortest forms, then with each handle of the segment; says
-    /// what differs first.
+    /// Runs the library with buffers of these lengths, then with each handle of the segment; says what differs first.
     pub fn differs(&mut self, case: &Case, found: &Found, room: Room) -> Option<String> {
         let told = rust::in_room(case, found, room);
         self.lent.lend(room);
         let reply = library::ask(case, &mut self.lent);
         let difference = self.difference(reply, told);
         if difference.is_some() || case.call == Call::Write {
-            return difference;
-        }
-        let difference = self.forms.differs(case, room, reply, &self.lent);
-        if difference.is_some() {
             return difference;
         }
         let handles = match self.handles.of(case.segment) {
@@ -95,7 +86,7 @@ impl Runner {
     /// What differs in the reply and the lent places from what the oracle says.
     fn difference(&self, reply: Reply, told: Result<&Answer, Refused>) -> Option<String> {
         let expected = match told {
-            Ok(answer) => Reply { third: answer.third, ..Reply::accepted(answer.first, answer.second) },
+            Ok(answer) => Reply::accepted(answer.first, answer.second),
             Err((_, refusal)) => Reply::from(refusal),
         };
         let held = match told {
@@ -119,9 +110,6 @@ impl Runner {
         let told = rust::in_room(case, found, room);
         self.tally.count(case.call, told);
         self.handles.count(case, told);
-        if case.call != Call::Write {
-            self.forms.count(case, told, self.handles.levels());
-        }
         if let Some(sample) = &mut self.sample {
             sample.offer(case, room, told);
         }

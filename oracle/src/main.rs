@@ -9,7 +9,6 @@
 //!   bars, worked, corners, patterns, strings, large    document 01's cases, whole small spaces, limits
 //!   show, shrink, reshape, sample                      a case as text, made smaller, and as a record of the replay list
 //!   handle                   a segment checked once and asked often: every call above with handles, and any handle with any bytes
-//!   forms                    cards written by other tools: the counts of long forms, and every call above in shortest forms too
 //!   midi, sheet, ranked, pad, lookup   bars from MIDI files, a bar on paper, the best bars first, a pad to record on and the length
 //!                            lookup for the menu, which the Rust does not have, beside models from document 02's words
 
@@ -18,7 +17,6 @@ mod case;
 mod compare;
 mod corners;
 mod damage;
-mod forms;
 mod given;
 mod handle;
 mod large;
@@ -144,7 +142,6 @@ fn compared(options: &Options) -> std::io::Result<ExitCode> {
         options.only_pads,
         options.only_lookups,
         options.only_handles,
-        options.only_forms,
     ];
     let all = !only.contains(&true);
     if all {
@@ -176,9 +173,6 @@ fn compared(options: &Options) -> std::io::Result<ExitCode> {
         with_handles(&mut runner, options);
         handle::all(&mut any, options.seed, options.handles);
     }
-    if all || options.only_forms {
-        forms::all(&mut runner, options.seed, options.forms, options.whole);
-    }
     if let (Some(file), Some(sample)) = (&options.midi_sample, midi.sample.take()) {
         sample.write(file)?;
     }
@@ -202,9 +196,6 @@ fn compared(options: &Options) -> std::io::Result<ExitCode> {
     }
     if all || options.only_lookups {
         missed += lookups.tally.print();
-    }
-    if all || options.only_forms {
-        missed += runner.forms.tally.print();
     }
     conclude(&mut runner);
     midi::conclude(&mut midi);
@@ -250,9 +241,6 @@ fn main() -> ExitCode {
     }
     if let Some(line) = &options.handle_case {
         return handle::one_case(line);
-    }
-    if let Some(line) = &options.forms_case {
-        return forms::one_case(line);
     }
     compared(&options).unwrap_or_else(|error| {
         eprintln!("a replay list could not be written: {error}");

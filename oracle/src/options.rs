@@ -29,9 +29,6 @@ pub struct Options {
     pub only_handles: bool,
     pub handles: u64,
     pub handle_case: Option<String>,
-    pub only_forms: bool,
-    pub forms: u64,
-    pub forms_case: Option<String>,
 }
 
 /// As they are given; README.md lists them.
@@ -63,9 +60,6 @@ pub fn options() -> Result<Options, String> {
         only_handles: false,
         handles: 1_000_000,
         handle_case: None,
-        only_forms: false,
-        forms: 500_000,
-        forms_case: None,
     };
     let mut words = std::env::args().skip(1);
     while let Some(word) = words.next() {
@@ -98,9 +92,6 @@ pub fn options() -> Result<Options, String> {
             "--only-handles" => options.only_handles = true,
             "--handles" => options.handles = number(value()?)?,
             "--handle-case" => options.handle_case = Some(value()?),
-            "--only-forms" => options.only_forms = true,
-            "--forms" => options.forms = number(value()?)?,
-            "--forms-case" => options.forms_case = Some(value()?),
             _ => return Err(format!("unknown option {word}")),
         }
     }

@@ -30,7 +30,7 @@ impl Refusal {
 }
 
 impl Reply {
-    /// Most calls say two numbers at most; the third and fourth are 0.
+    /// Document 01's calls say two numbers; the third and fourth are 0.
     pub fn accepted(first: u64, second: u64) -> Self {
         Reply { kind: 0, which: 0, index: 0, first, second, third: 0, fourth: 0 }
     }

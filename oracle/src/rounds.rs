@@ -3,7 +3,6 @@
 use crate::case::{Call, Case};
 use crate::compare::{opened, Runner};
 use crate::damage::damaged;
-use crate::forms;
 use crate::given::Given;
 use crate::make;
 use crate::questions::{self, Pool};
@@ -33,7 +32,6 @@ pub fn round(runner: &mut Runner, random: &mut Random) {
         return runner.stray(format!("lists that fit are refused: {given:?}"));
     };
     let positions: usize = given.terms.iter().flat_map(|term| &term.postings).map(|posting| posting.positions.len()).sum();
-    forms::hold_written(runner, &answer.bytes);
     let written = opened(&answer.bytes);
     if !given_back(&given, &written) {
         runner.stray(format!("what is given back differs: {given:?}"));

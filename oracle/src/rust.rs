@@ -1,8 +1,6 @@
-//! The answer of the Rust, in document 01's order: what is added to it in `words`, then the Rust itself; and the counts of long forms,
-//! which it does not have.
+//! The answer of the Rust, in document 01's order: what is added to it in `words`, then the Rust itself.
 
 use crate::case::{Call, Case, Room, ENDS, IDS, LENGTHS, POSITIONS, POSITION_COUNTS, POSTING_COUNTS, POSTING_IDS};
-use crate::forms;
 use crate::numbers::refusal;
 use crate::reply::Refusal;
 use crate::words;
@@ -27,8 +25,6 @@ pub type Refused = (Stage, Refusal);
 pub struct Answer {
     pub first: u64,
     pub second: u64,
-    /// long forms, by `forms`
-    pub third: u64,
     pub places: [Vec<u32>; 3],
     pub bytes: Vec<u8>,
 }
@@ -84,8 +80,7 @@ pub fn answer(case: &Case, opened: &Opened) -> Result<Answer, Refused> {
         Call::Open => {
             let documents = segment()?.document_lengths().len() as u64;
             let terms = u32::from_le_bytes(case.segment[20..24].try_into().unwrap());
-            let third = forms::in_metadata(case.segment, documents);
-            Ok(Answer { first: documents, second: terms.into(), third, ..Answer::default() })
+            Ok(Answer { first: documents, second: terms.into(), ..Answer::default() })
         }
         Call::DocumentLengths => {
             let (ids, lengths): (Vec<u32>, Vec<u32>) = segment()?.document_lengths().iter().copied().unzip();
@@ -110,8 +105,7 @@ pub fn answer(case: &Case, opened: &Opened) -> Result<Answer, Refused> {
             let counts = postings.iter().map(|p| p.positions.len() as u32).collect();
             let positions: Vec<u32> = postings.iter().flat_map(|p| p.positions.iter().copied()).collect();
             let (first, second) = (ids.len() as u64, positions.len() as u64);
-            let third = forms::in_list(case.segment, case.text, first, second);
-            Ok(Answer { first, second, third, places: [ids, counts, positions], bytes: Vec::new() })
+            Ok(Answer { first, second, places: [ids, counts, positions], bytes: Vec::new() })
         }
         Call::Positions => {
             let name = name()?;

@@ -42,12 +42,10 @@ fn filled<T: Place>(answer: &[T], room: usize) -> Vec<T> {
 fn record(case: &Case, room: Room, told: Result<&Answer, Refused>) -> Vec<u8> {
     let nothing = Answer::default();
     let (reply, answer) = match told {
-        Ok(answer) => (Reply { third: answer.third, ..Reply::accepted(answer.first, answer.second) }, answer),
+        Ok(answer) => (Reply::accepted(answer.first, answer.second), answer),
         Err((_, refusal)) => (Reply::from(refusal), &nothing),
     };
-    let mut bytes = vec![case.call as u8, case.ordered.into()];
-    // no case is long enough for more
-    bytes.extend((reply.third as u16).to_le_bytes());
+    let mut bytes = vec![case.call as u8, case.ordered.into(), 0, 0];
     put_words(&mut bytes, &[case.number, reply.kind, reply.which]);
     for number in [reply.index, reply.first, reply.second] {
         bytes.extend(number.to_le_bytes());
@@ -83,13 +81,12 @@ impl Sample {
         self.taken.clear();
     }
 
-    /// Cases are of one sort when call, refusal or answer lengths, long forms (up to 2), and the number of names (up to 4) agree.
+    /// Cases are of one sort when call, refusal or answer lengths, and the number of names (up to 4) agree.
     pub fn offer(&mut self, case: &Case, room: Room, told: Result<&Answer, Refused>) {
         let sort = match told {
             Ok(answer) => {
                 let spare = (0..3).any(|i| room.places[i] > answer.places[i].len()) || room.bytes > answer.bytes.len();
-                let names = case.lists[0].len().min(4) as u64;
-                [0, answer.first.min(3), answer.second.min(3), names, 2 * answer.third.min(2) + u64::from(spare)]
+                [0, answer.first.min(3), answer.second.min(3), case.lists[0].len().min(4) as u64, spare.into()]
             }
             Err((stage, refusal)) => [refusal.kind.into(), refusal.which.into(), stage as u64, refusal.index.min(3), 0],
         };

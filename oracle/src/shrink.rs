@@ -5,9 +5,6 @@ use crate::compare::{found, opened, Runner};
 use crate::given::Given;
 use crate::parts::Parts;
 use crate::reshape::given_of;
-use std::time::{Duration, Instant};
-
-const LONGEST: Duration = Duration::from_secs(60);
 
 fn differs(runner: &mut Runner, kept: &Kept) -> bool {
     let case = kept.case();
@@ -217,11 +214,9 @@ pub fn is_large(kept: &Kept) -> bool {
     kept.size().0 > 20_000
 }
 
-/// Made smaller for at most so long as `LONGEST` says.
 pub fn shrunk(runner: &mut Runner, mut kept: Kept) -> Kept {
-    let until = Instant::now() + LONGEST;
     'again: while !is_large(&kept) {
-        for smaller in candidates(&kept).into_iter().take_while(|_| Instant::now() < until) {
+        for smaller in candidates(&kept) {
             if smaller.size() < kept.size() && differs(runner, &smaller) {
                 kept = smaller;
                 continue 'again;

@@ -41,7 +41,7 @@ impl Lists {
         Lists { parts }
     }
 
-    /// The list is read whole, for its count; the other calls that decode it go by turns.
+    /// All calls that decode go by turns.
     fn as_list(&mut self, runner: &mut Runner, df: u32, list: &[u8]) {
         self.parts.postings.clear();
         self.parts.put_list(0, list);
@@ -49,9 +49,9 @@ impl Lists {
         self.parts.sign_lists();
         let bytes = self.parts.bytes();
         let opened = opened(&bytes);
-        runner.ask_full(&Case::on(Call::TermPostings, &bytes).named(b"a"), &opened);
-        let turn = list.iter().map(|byte| usize::from(*byte)).sum::<usize>() % 5;
-        let call = [Call::DocsWithTerm, Call::Positions, Call::Phrase, Call::Near, Call::NearTerms][turn];
+        let turn = list.iter().map(|byte| usize::from(*byte)).sum::<usize>() % 8;
+        let calls = [Call::DocsWithTerm, Call::Positions, Call::Phrase, Call::Near, Call::NearTerms];
+        let call = calls.get(turn).copied().unwrap_or(Call::TermPostings);
         let mut case = Case::on(call, &bytes).named(b"a");
         match call {
             Call::Positions => case.number = 1,

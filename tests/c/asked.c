@@ -96,8 +96,7 @@ void expect_inside(const char *note, const struct asked *asked, pstp_handle hand
         bool answered = got.kind == PSTP_ACCEPTED;
         uint64_t n[3] = {got.first, got.first, got.second};
         expect(note, answered ? got.which == 0 && got.index == 0 : got.first == 0 && got.second == 0);
-        expect(note, got.fourth == 0 && got.kind <= PSTP_NO_ROOM);
-        expect(note, got.third == 0 || (answered && asked->call == ASK_POSTINGS)); /* long forms, counted by that call alone */
+        expect(note, got.third == 0 && got.fourth == 0 && got.kind <= PSTP_NO_ROOM);
         for (size_t i = 0; i < buffers[asked->call]; i++) {
             expect(note, n[i] <= asked->room[i]);
             /* whatever the answer is: nothing behind it is touched */
@@ -201,28 +200,21 @@ static const struct {
     {ASK_NEAR_TERMS, "snare", "", 9, false},
 };
 
-enum { QUESTIONS = sizeof questions / sizeof questions[0] };
-
-/* Question i put to a segment, with room for every answer. It points to the names. */
-static struct asked question(size_t i, const struct bytes *s, const struct names *n) {
-    return (struct asked){.call = questions[i].call,
+static void expect_all_alike(const char *note, const struct bytes *s, pstp_handle handle) {
+    for (size_t i = 0; i < sizeof questions / sizeof questions[0]; i++) {
+        struct names n = names(questions[i].names);
+        struct asked q = {.call = questions[i].call,
                           .segment = s->at,
                           .segment_len = s->len,
-                          .text = n->text.at,
-                          .text_len = n->text.len,
+                          .text = n.text.at,
+                          .text_len = n.text.len,
                           .second = (const uint8_t *)questions[i].second,
                           .second_len = strlen(questions[i].second),
-                          .ends = n->ends.at,
-                          .ends_len = n->ends.len,
+                          .ends = n.ends.at,
+                          .ends_len = n.ends.len,
                           .number = questions[i].number,
                           .ordered = questions[i].ordered,
                           .room = {ROOM, ROOM, ROOM}};
-}
-
-static void expect_all_alike(const char *note, const struct bytes *s, pstp_handle handle) {
-    for (size_t i = 0; i < QUESTIONS; i++) {
-        struct names n = names(questions[i].names);
-        struct asked q = question(i, s, &n);
         struct lent x = lent(), y = lent(), z = lent();
         pstp_reply whole = without(&q, (uint32_t *[]){x.place, y.place, z.place});
         size_t needed[] = {(size_t)whole.first, (size_t)whole.first, (size_t)whole.second};
@@ -250,19 +242,4 @@ void expect_handles(const char *note, const struct bytes *segment, pstp_reply wa
     }
     expect_all_alike(note, segment, pstp_open_once(segment->at, segment->len));
     expect_all_alike(note, segment, pstp_check(segment->at, segment->len));
-}
-
-void expect_answers_of(const char *note, const struct bytes *segment, const struct bytes *other) {
-    for (size_t i = 0; i < QUESTIONS; i++) {
-        struct names n = names(questions[i].names);
-        struct asked q = question(i, segment, &n), same = question(i, other, &n);
-        struct lent x[] = {lent(), lent(), lent()}, y[] = {lent(), lent(), lent()};
-        pstp_reply got = without(&q, (uint32_t *[]){x[0].place, x[1].place, x[2].place});
-        pstp_reply want = without(&same, (uint32_t *[]){y[0].place, y[1].place, y[2].place});
-        want.third = q.call == ASK_POSTINGS ? got.third : 0;
-        expect_reply(note, got, want);
-        for (size_t k = 0; k < buffers[q.call]; k++) {
-            expect_filled(note, &x[k], y[k].place, ROOM);
-        }
-    }
 }

@@ -35,9 +35,6 @@ void expect_inside(const char *note, const struct asked *asked, pstp_handle hand
  * buffers exactly full, one short, empty and larger, all alike. */
 void expect_handles(const char *note, const struct bytes *segment, pstp_reply want);
 
-/* The same calls without a handle: the segment answers what the other does, and the count of long forms is left open. */
-void expect_answers_of(const char *note, const struct bytes *segment, const struct bytes *other);
-
 /* What pstp_check should say of a segment, by the calls without a handle: the refusal of opening, else of the first list, else accepted. */
 pstp_reply first_refusal(const struct bytes *segment);
 

@@ -103,12 +103,9 @@ void repair(struct bytes *segment) {
 }
 
 struct bytes assemble(struct parts parts) {
-    struct bytes metadata = hex(parts.metadata), lists = hex(parts.lists);
-    return assemble_bytes(parts, &metadata, &lists);
-}
-
-struct bytes assemble_bytes(struct parts parts, const struct bytes *metadata, const struct bytes *lists) {
     struct bytes segment = {{0}, 72};
+    struct bytes metadata = hex(parts.metadata);
+    struct bytes lists = hex(parts.lists);
     size_t names_len = parts.names ? strlen(parts.names) : 0;
     memcpy(segment.at, "PSTP0001", 8);
     put_little(segment.at + 8, 2, 4);
@@ -116,8 +113,8 @@ struct bytes assemble_bytes(struct parts parts, const struct bytes *metadata, co
     put_little(segment.at + 20, parts.terms, 4);
     put_little(segment.at + 24, 32 * parts.entries, 8);
     put_little(segment.at + 32, names_len, 8);
-    put_little(segment.at + 40, metadata->len, 8);
-    put_little(segment.at + 48, lists->len, 8);
+    put_little(segment.at + 40, metadata.len, 8);
+    put_little(segment.at + 48, lists.len, 8);
     for (size_t i = 0; i < parts.entries; i++) {
         uint8_t entry[32] = {0};
         put_little(entry, parts.entry[i].name_at, 4);
@@ -128,36 +125,10 @@ struct bytes assemble_bytes(struct parts parts, const struct bytes *metadata, co
         append(&segment, entry, 32);
     }
     append(&segment, parts.names, names_len);
-    append(&segment, metadata->at, metadata->len);
-    append(&segment, lists->at, lists->len);
+    append(&segment, metadata.at, metadata.len);
+    append(&segment, lists.at, lists.len);
     repair(&segment);
     return segment;
-}
-
-void append_number(struct bytes *to, uint32_t value, size_t bytes) {
-    for (size_t i = 1; value >= 128 || i < bytes; i++, value /= 128) {
-        uint8_t more = (uint8_t)(value % 128 + 128);
-        append(to, &more, 1);
-    }
-    uint8_t last = (uint8_t)value;
-    append(to, &last, 1);
-}
-
-size_t long_forms(const uint8_t *numbers, size_t len) {
-    size_t count = 0;
-    for (size_t i = 0; i < len; i++) {
-        uint64_t value = 0, unit = 1;
-        size_t bytes = 1, needed = 1;
-        for (; i + 1 < len && numbers[i] >= 128; i++, bytes++, unit *= 128) {
-            value += unit * (numbers[i] % 128);
-        }
-        value += unit * numbers[i];
-        for (uint64_t rest = value / 128; rest > 0; rest /= 128) {
-            needed++;
-        }
-        count += bytes > needed;
-    }
-    return count;
 }
 
 /* The checksums in these two were worked out with zlib. */

@@ -45,13 +45,6 @@ struct parts {
     size_t entries;
 };
 struct bytes assemble(struct parts parts);
-struct bytes assemble_bytes(struct parts parts, const struct bytes *metadata, const struct bytes *lists); /* in place of the digits */
-
-/* A stored number, unsigned LEB128: in so many bytes, or in as few as its value needs where that is more. */
-void append_number(struct bytes *to, uint32_t value, size_t bytes);
-
-/* How many of the stored numbers that follow each other here have more bytes than their values need. */
-size_t long_forms(const uint8_t *numbers, size_t len);
 
 /* The checksums of the header, and of each list, made to fit what stands in the sections. */
 void repair(struct bytes *segment);

@@ -99,9 +99,6 @@ int main(void) {
     test_pad_broken();
     test_pad_limits();
     test_handles();
-    test_long_forms();
-    test_long_forms_places();
-    test_long_forms_written();
     test_limits();
     test_empty();
     test_stack();

@@ -104,11 +104,10 @@ static void test_undecoded(const char *note, const struct bytes *s, uint32_t df)
     expect_filled(note, &x, nowhere, 0);
 }
 
-static void test_accepted(const char *note, const struct bytes *s, struct bytes list, struct numbers ids, struct numbers counts,
-                          struct numbers positions) {
+static void test_accepted(const char *note, const struct bytes *s, struct numbers ids, struct numbers counts, struct numbers positions) {
     struct lent x = lent(), y = lent(), z = lent();
     expect_reply(note, pstp_term_postings(s->at, s->len, a, 1, x.place, ROOM, y.place, ROOM, z.place, ROOM),
-                 accepted_four(ids.len, positions.len, long_forms(list.at, list.len), 0));
+                 accepted(ids.len, positions.len));
     expect_filled(note, &x, ids.at, ids.len);
     expect_filled(note, &y, counts.at, counts.len);
     expect_filled(note, &z, positions.at, positions.len);
@@ -159,7 +158,7 @@ void test_decoding(void) {
         if (row->kind) {
             test_refused(row->note, &s, refused(row->kind, row->which, row->index));
         } else {
-            test_accepted(row->note, &s, hex(row->list), numbers(row->ids), numbers(row->counts), numbers(row->positions));
+            test_accepted(row->note, &s, numbers(row->ids), numbers(row->counts), numbers(row->positions));
         }
     }
     /* A list's own checksum, with the directory's made right over it, comes before what the list holds. */

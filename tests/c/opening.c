@@ -198,8 +198,7 @@ void test_opening(void) {
     for (size_t i = 0; i < sizeof metadata / sizeof metadata[0]; i++) {
         const struct metadata *row = &metadata[i];
         struct bytes segment = assemble((struct parts){.documents = row->documents, .metadata = row->metadata});
-        pstp_reply opened = accepted_four(row->documents, 0, long_forms(segment.at + 72, segment.len - 72), 0);
-        pstp_reply want = row->kind ? refused(row->kind, row->which, row->index) : opened;
+        pstp_reply want = row->kind ? refused(row->kind, row->which, row->index) : accepted(row->documents, 0);
         expect_reply(row->note, pstp_open(segment.at, segment.len), want);
         expect_handles(row->note, &segment, want);
         if (row->kind) {

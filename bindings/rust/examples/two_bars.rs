@@ -32,10 +32,6 @@ fn main() -> Result<(), Error> {
         }
     }
 
-    // None: this library wrote the bytes.
-    let forms = (segment.long_forms(), segment.term_long_forms("kick")?);
-    println!("long forms in the metadata and in kick's list: {forms:?}");
-
     let both = ["kick", "snare"];
     println!("kick snare: {:?}", segment.phrase_match_strs(&both)?);
     for window in [3, 4] {

@@ -1,7 +1,7 @@
 //! A segment checked once and asked often. The questions are those of [`RawPositionalSegment`].
 
 use crate::flat::Names;
-use crate::room::{front, with_positions, Listed};
+use crate::room::{front, split_postings, with_positions};
 use crate::segment::RawPositionalSegment;
 use crate::sys::handle::{self, Handle};
 use crate::types::{DocId, RawPositionalPosting, TokenPos};
@@ -51,12 +51,6 @@ impl<'a> CheckedSegment<'a> {
         let segment = RawPositionalSegment::of_handle(bytes, &handle);
         Ok(Self { segment, handle })
     }
-
-    /// The same of a segment that is open, with what is known of it.
-    pub(crate) fn of(segment: RawPositionalSegment<'a>) -> Result<Self, Error> {
-        let handle = handle::check(segment.bytes()).accepted()?;
-        Ok(Self { segment, handle })
-    }
 }
 
 /// A segment that was opened once: a question does not open it again, but decodes the lists that it needs.
@@ -75,12 +69,6 @@ impl<'a> OpenedSegment<'a> {
     pub fn open(bytes: &'a [u8]) -> Result<Self, Error> {
         let handle = handle::open_once(bytes).accepted()?;
         let segment = RawPositionalSegment::of_handle(bytes, &handle);
-        Ok(Self { segment, handle })
-    }
-
-    /// The same of a segment that is open, with what is known of it.
-    pub(crate) fn of(segment: RawPositionalSegment<'a>) -> Result<Self, Error> {
-        let handle = handle::open_once(segment.bytes()).accepted()?;
         Ok(Self { segment, handle })
     }
 }
@@ -102,11 +90,6 @@ macro_rules! questions {
             /// Return the number of terms.
             pub fn term_count(&self) -> u32 {
                 self.segment.term_count()
-            }
-
-            /// [`RawPositionalSegment::long_forms`]. Where no [`RawPositionalSegment`] was opened before, this opens the bytes for it.
-            pub fn long_forms(&self) -> u64 {
-                self.segment.long_forms()
             }
 
             /// [`RawPositionalSegment::document_len`].
@@ -131,28 +114,29 @@ macro_rules! questions {
 
             /// [`RawPositionalSegment::term_postings`].
             pub fn term_postings(&self, term: &str) -> Result<Vec<RawPositionalPosting>, Error> {
-                Ok(self.listed(term)?.postings())
-            }
-
-            /// [`RawPositionalSegment::term_long_forms`].
-            pub fn term_long_forms(&self, term: &str) -> Result<u64, Error> {
-                Ok(self.listed(term)?.long_forms)
-            }
-
-            fn listed(&self, term: &str) -> Result<Listed, Error> {
                 let bytes = self.segment.bytes();
-                Listed::of(&self.segment, |ids, counts, positions| {
-                    handle::term_postings(bytes, self.handle, term, ids, counts, positions)
-                })
+                let mut ids = self.segment.room_for_documents();
+                let mut counts = self.segment.room_for_documents();
+                let (postings, positions) = with_positions(bytes.len(), |positions| {
+                    handle::term_postings(
+                        bytes,
+                        self.handle,
+                        term,
+                        &mut ids,
+                        &mut counts,
+                        positions,
+                    )
+                })?;
+                Ok(split_postings(&ids[..postings], &counts, &positions))
             }
 
             /// [`RawPositionalSegment::positions`].
             pub fn positions(&self, term: &str, doc_id: DocId) -> Result<Vec<TokenPos>, Error> {
                 let bytes = self.segment.bytes();
-                let ([count, ..], positions) = with_positions(bytes.len(), |positions| {
+                let (count, positions) = with_positions(bytes.len(), |positions| {
                     handle::positions(bytes, self.handle, term, doc_id, positions)
                 })?;
-                Ok(front(positions, count))
+                Ok(front(positions, count as u64))
             }
 
             /// [`RawPositionalSegment::phrase_match_strs`].

@@ -30,9 +30,8 @@
 //! - A question has at most 128 terms, and each list at most 16,777,216 elements; otherwise [`Error::TooLarge`].
 //! - Files and the hash-map index are left out. [`midi_bars`], which reads bars from a MIDI file,
 //!   [`RawPositionalSegment::bar_sheet`], which puts a bar on paper, [`RawPositionalSegment::phrase_match_ranked`], which lists the
-//!   best bars first, [`length_of`], which looks a length up in lists of the caller's own, [`Pad`], which holds bars before they are
-//!   written, and [`RawPositionalSegment::long_forms`] and [`RawPositionalSegment::term_long_forms`], which tell segments that this
-//!   library cannot have written, are added.
+//!   best bars first, [`length_of`], which looks a length up in lists of the caller's own, and [`Pad`], which holds bars before they are
+//!   written, are added.
 #![deny(missing_docs)]
 #![deny(unsafe_code)]
 

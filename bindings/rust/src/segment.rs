@@ -2,7 +2,7 @@
 
 use crate::checked::{CheckedSegment, OpenedSegment};
 use crate::flat::Names;
-use crate::room::{front, with_positions, Listed};
+use crate::room::{front, split_postings, with_positions};
 use crate::sys::handle::Handle;
 use crate::sys::{self, Reply};
 use crate::types::{DocId, RawPositionalPosting, TokenPos};
@@ -10,15 +10,13 @@ use crate::Error;
 
 /// A byte-backed immutable positional segment.
 ///
-/// It holds the bytes and what opening counts in them, nothing decoded: each method opens and checks the bytes again. For many questions to
-/// one segment see [`check`](Self::check) and [`open_once`](Self::open_once).
+/// It holds the bytes and their two counts, nothing decoded: each method opens and checks the bytes again. For many questions to one segment
+/// see [`check`](Self::check) and [`open_once`](Self::open_once).
 #[derive(Clone, Copy, Debug)]
 pub struct RawPositionalSegment<'a> {
     bytes: &'a [u8],
     doc_count: u32,
     term_count: u32,
-    /// None where a handle was made of the bytes, which does not have this number.
-    long_forms: Option<u64>,
 }
 
 impl<'a> RawPositionalSegment<'a> {
@@ -26,12 +24,11 @@ impl<'a> RawPositionalSegment<'a> {
     ///
     /// Fixed sections and checksums are validated. Posting payloads are decoded when a term is requested.
     pub fn open(bytes: &'a [u8]) -> Result<Self, Error> {
-        let [documents, terms, long_forms, _] = sys::open(bytes).numbers()?;
+        let (documents, terms) = sys::open(bytes).answer()?;
         Ok(Self {
             bytes,
             doc_count: documents as u32,
             term_count: terms as u32,
-            long_forms: Some(long_forms),
         })
     }
 
@@ -40,12 +37,12 @@ impl<'a> RawPositionalSegment<'a> {
     /// The error is that of the first list, in the order of the terms, that does not decode; the other terms can still be asked for here
     /// and in [`open_once`](Self::open_once).
     pub fn check(&self) -> Result<CheckedSegment<'a>, Error> {
-        CheckedSegment::of(*self)
+        CheckedSegment::open(self.bytes)
     }
 
     /// Open the bytes for many questions: those to the [`OpenedSegment`] decode the lists that they need, but do not open the bytes again.
     pub fn open_once(&self) -> Result<OpenedSegment<'a>, Error> {
-        OpenedSegment::of(*self)
+        OpenedSegment::open(self.bytes)
     }
 
     /// Return the number of documents.
@@ -56,36 +53,6 @@ impl<'a> RawPositionalSegment<'a> {
     /// Return the number of terms.
     pub fn term_count(&self) -> u32 {
         self.term_count
-    }
-
-    /// Return how many numbers of the document metadata are in a long form, that is in more bytes than their values need, as `80 00` is for
-    /// 0. Both numbers of each document are looked at, and each counts once, however many bytes it has too many.
-    ///
-    /// Long forms are read like any other. This library writes none, neither here nor in the lists
-    /// ([`term_long_forms`](Self::term_long_forms)), so a segment that shows more than 0 was not written by it; 0 does not say who wrote
-    /// it.
-    ///
-    /// ```
-    /// use pstp::RawPositionalSegment;
-    ///
-    /// // From another tool: bar 3 of 16 steps, kick on 0, 4 and 15. The bar's id is 83 00, and kick's list has an 80 00 and an 8B 80 00.
-    /// let card = b"PSTP0001\x02\0\0\0\0\0\0\0\x01\0\0\0\x01\0\0\0\x20\0\0\0\0\0\0\0\x04\0\0\0\0\0\0\0\x03\0\0\0\0\0\0\0\x08\0\0\0\0\0\0\0\
-    ///     \xA1\x3E\x67\xE2\x05\xDF\xD5\x1E\xAF\x6C\x85\x01\xB2\x2D\x74\x9D\
-    ///     \0\0\0\0\x04\0\0\0\0\0\0\0\0\0\0\0\x08\0\0\0\0\0\0\0\x01\0\0\0\xB2\x2D\x74\x9D\
-    ///     kick\x83\0\x10\x03\x03\x80\0\x04\x8B\x80\0";
-    /// let segment = RawPositionalSegment::open(card)?;
-    /// assert_eq!(segment.long_forms(), 1);
-    /// assert_eq!(segment.term_long_forms("kick")?, 2);
-    /// assert_eq!(segment.positions("kick", 3)?, [0, 4, 15]);
-    /// # Ok::<(), pstp::Error>(())
-    /// ```
-    pub fn long_forms(&self) -> u64 {
-        self.long_forms.unwrap_or_else(|| {
-            let [_, _, long_forms, _] = sys::open(self.bytes)
-                .numbers()
-                .expect("the bytes were accepted, and are borrowed since");
-            long_forms
-        })
     }
 
     /// Return `(doc_id, token_count)` pairs sorted by document id.
@@ -115,37 +82,21 @@ impl<'a> RawPositionalSegment<'a> {
 
     /// Return decoded postings for one term; none for an unknown term.
     pub fn term_postings(&self, term: &str) -> Result<Vec<RawPositionalPosting>, Error> {
-        Ok(self.listed(term)?.postings())
-    }
-
-    /// Return how many numbers of one term's list are in a long form ([`long_forms`](Self::long_forms)), id gaps, counts and position gaps
-    /// alike; 0 for an unknown term. The list is decoded as by [`term_postings`](Self::term_postings), with the same errors.
-    ///
-    /// ```
-    /// # use pstp::{write_positional_segment, PositionalPosting, PositionalTermPostings, RawPositionalSegment};
-    /// # let kick = vec![PositionalPosting { doc_id: 3, positions: &[0, 4, 15] }];
-    /// let bytes = write_positional_segment(&[(3, 16)], &[PositionalTermPostings { term: "kick", postings: kick }])?;
-    /// let segment = RawPositionalSegment::open(&bytes)?;
-    /// // Written by this library: none.
-    /// assert_eq!((segment.long_forms(), segment.term_long_forms("kick")?), (0, 0));
-    /// # Ok::<(), pstp::Error>(())
-    /// ```
-    pub fn term_long_forms(&self, term: &str) -> Result<u64, Error> {
-        Ok(self.listed(term)?.long_forms)
-    }
-
-    fn listed(&self, term: &str) -> Result<Listed, Error> {
-        Listed::of(self, |ids, counts, positions| {
-            sys::term_postings(self.bytes, term, ids, counts, positions)
-        })
+        let mut ids = self.room_for_documents();
+        let mut counts = self.room_for_documents();
+        // A position takes a byte or more.
+        let (postings, positions) = with_positions(self.bytes.len(), |positions| {
+            sys::term_postings(self.bytes, term, &mut ids, &mut counts, positions)
+        })?;
+        Ok(split_postings(&ids[..postings], &counts, &positions))
     }
 
     /// Return positions for one term in one document; none where either is unknown. The term's whole list is decoded.
     pub fn positions(&self, term: &str, doc_id: DocId) -> Result<Vec<TokenPos>, Error> {
-        let ([count, ..], positions) = with_positions(self.bytes.len(), |positions| {
+        let (count, positions) = with_positions(self.bytes.len(), |positions| {
             sys::positions(self.bytes, term, doc_id, positions)
         })?;
-        Ok(front(positions, count))
+        Ok(front(positions, count as u64))
     }
 
     /// Exact phrase match over borrowed term strings: term i is on start + i, for some start.
@@ -234,7 +185,6 @@ impl<'a> RawPositionalSegment<'a> {
             bytes,
             doc_count: handle.documents(),
             term_count: handle.terms(),
-            long_forms: None,
         }
     }
 

@@ -49,7 +49,7 @@ impl Reply {
         }
     }
 
-    /// The answer's first two numbers, or the refusal. Only `open`, `term_postings` and `midi_bars` have more.
+    /// The answer's first two numbers, or the refusal. Only `midi_bars` has more.
     pub(crate) fn answer(self) -> Result<(u64, u64), Error> {
         self.numbers().map(|[first, second, ..]| (first, second))
     }

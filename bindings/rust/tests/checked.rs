@@ -3,7 +3,7 @@
 
 mod common;
 
-use common::{assembled, repaired, two_bars, write, Random};
+use common::{repaired, two_bars, write, Random};
 use pstp::{CheckedSegment, Error, OpenedSegment, RawPositionalSegment};
 
 const NAMES: [&str; 8] = ["kick", "snare", "a", "ab", "h\u{e4}t", "tom", "", "kic"];
@@ -28,7 +28,6 @@ macro_rules! assert_same {
         let (handled, plain) = ($handled, $plain);
         assert_eq!(handled.doc_count(), plain.doc_count());
         assert_eq!(handled.term_count(), plain.term_count());
-        assert_eq!(handled.long_forms(), plain.long_forms());
         let again = handled.segment();
         assert_eq!(again.document_lengths(), plain.document_lengths());
         for &id in $ids {
@@ -39,7 +38,6 @@ macro_rules! assert_same {
             assert_eq!(handled.df(name), plain.df(name));
             assert_eq!(handled.docs_with_term(name), plain.docs_with_term(name));
             assert_eq!(handled.term_postings(name), plain.term_postings(name));
-            assert_eq!(handled.term_long_forms(name), plain.term_long_forms(name));
             for &id in $ids {
                 assert_eq!(handled.positions(name, id), plain.positions(name, id));
             }
@@ -128,16 +126,7 @@ fn several() -> Vec<Vec<u8>> {
             ],
         )
         .unwrap(),
-        long_forms(),
     ]
-}
-
-/// Two bars and two sounds, with numbers in long forms in the metadata and in each list.
-fn long_forms() -> Vec<u8> {
-    let kick = [0x83, 0, 3, 0x80, 0, 4, 0x8B, 0x80, 0, 4, 1, 2];
-    let snare = [3, 2, 8, 0x86, 0, 4, 2, 3, 1];
-    let terms: [(&str, u32, &[u8]); 2] = [("kick", 2, &kick), ("snare", 2, &snare)];
-    assembled(2, &[0x83, 0, 0x10, 4, 0x90, 0x80, 0], &terms)
 }
 
 const IDS: [u32; 7] = [0, 1, 3, 7, 8, 70_000, u32::MAX];

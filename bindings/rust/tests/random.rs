@@ -132,7 +132,6 @@ fn as_the_rules_say() {
         let segment = RawPositionalSegment::open(&bytes).unwrap();
         assert_eq!(segment.document_lengths().unwrap(), bars.lengths);
         assert_eq!(segment.term_count() as usize, bars.hits.len());
-        assert_eq!(segment.long_forms(), 0);
         for name in NAMES {
             let postings: Vec<_> = bars.hits.get(name).into_iter().flatten().collect();
             let want: Vec<_> = postings
@@ -143,7 +142,6 @@ fn as_the_rules_say() {
                 })
                 .collect();
             assert_eq!(segment.term_postings(name).unwrap(), want);
-            assert_eq!(segment.term_long_forms(name).unwrap(), 0);
             assert_eq!(segment.df(name).unwrap() as usize, want.len());
             let ids: Vec<_> = want.iter().map(|posting| posting.doc_id).collect();
             assert_eq!(segment.docs_with_term(name).unwrap(), ids);

@@ -29,9 +29,9 @@ accepted a b = accepted_four a b 0 0
 abbrev pub refused : Refusal → Reply
 refused x = record { kind = x.kind; which = x.which; index = x.index; first = 0; second = 0; third = 0; fourth = 0 }
 
--- documents, terms, and long forms in the metadata
+-- documents and terms
 abbrev pub opened_reply : Opened → Reply
-opened_reply (opened.Counts c) = accepted_four c.documents c.terms c.long_forms 0
+opened_reply (opened.Counts c) = accepted c.documents c.terms
 opened_reply (opened.Refused x) = refused x
 
 -- 1 and the length, or 0 and 0 where the document is unknown
@@ -48,9 +48,9 @@ abbrev pub counted_reply : Counted → Reply
 counted_reply (counted.Count n) = accepted n 0
 counted_reply (counted.Refused x) = refused x
 
--- postings, positions, and long forms in the list
+-- postings and positions
 abbrev pub listed_reply : TermTotals → Reply
-listed_reply (listed.Totals t) = accepted_four t.postings t.positions t.long_forms 0
+listed_reply (listed.Totals t) = accepted t.postings t.positions
 listed_reply (listed.Refused x) = refused x
 
 -- how many bytes

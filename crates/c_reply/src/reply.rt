@@ -56,17 +56,12 @@ fn refuse(x: Refusal) -> Reply
     }
 }
 
-// documents, terms, long forms in the metadata
+// documents, terms
 pub fn of_opened(a: Opened) -> Reply
     ensures { result ≡ opened_reply a }
 {
     match a {
-        Opened::Counts(c) => accept_four(
-            c.documents as u64,
-            c.terms as u64,
-            c.long_forms as u64,
-            0,
-        ),
+        Opened::Counts(c) => accept(c.documents as u64, c.terms as u64),
         Opened::Refused(x) => refuse(x),
     }
 }
@@ -102,17 +97,12 @@ pub fn of_counted(a: Counted) -> Reply
     }
 }
 
-// postings, positions, long forms in the list
+// postings, positions
 pub fn of_listed(a: TermTotals) -> Reply
     ensures { result ≡ listed_reply a }
 {
     match a {
-        TermTotals::Totals(t) => accept_four(
-            t.postings as u64,
-            t.positions as u64,
-            t.long_forms as u64,
-            0,
-        ),
+        TermTotals::Totals(t) => accept(t.postings as u64, t.positions as u64),
         TermTotals::Refused(x) => refuse(x),
     }
 }

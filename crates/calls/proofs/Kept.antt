@@ -20,7 +20,6 @@ use Rattle.segment.proofs.Accepted.{check_gives}
 use Rattle.rules.specs.declared.rule.Rule.{Rule}
 use Rattle.rules.specs.declared.rule.Rule.TheVariants.{Unordered}
 use Rattle.calls.specs.Questions.{check_question, two_checks, answers, search, search_text, search_two}
-use Rattle.calls.specs.Forms.{term_long_forms}
 use Rattle.calls.specs.Replies.{fronted, filled, count_of, docs_of, counts_of, totals}
 use Rattle.calls.specs.Kept.{Past, Kept, KeptPostings}
 use Rattle.calls.specs.Lookups.{positions_of}
@@ -136,24 +135,23 @@ postings_room bytes name room₁ room₂ room₃ e =
     rw (← ok_same f₃) (leb-true _ _ t₁, leb-true _ _ t₂, leb-true _ _ t₃)
 
 module _ (ids counts places : List ℕ) {r : TermTotals} {ids' counts' places' : List ℕ} where
-  totals_kept : (forms : ℕ) (a : Result (List Posting))
+  totals_kept : (a : Result (List Posting))
       → ((ps : List Posting) → a ≡ ok ps
       → (length ps ≤ length ids) × (length ps ≤ length counts) × (total_positions ps ≤ length places))
-      → r ≡ totals forms a → ids' ≡ filled docs_of a ids → counts' ≡ filled counts_of a counts → places' ≡ filled joined_positions a places
+      → r ≡ totals a → ids' ≡ filled docs_of a ids → counts' ≡ filled counts_of a counts → places' ≡ filled joined_positions a places
       → KeptPostings ids counts places r ids' counts' places'
-  totals_kept forms (ok ps) room reply left₁ left₂ left₃ =
+  totals_kept (ok ps) room reply left₁ left₂ left₃ =
       let (room₁, room₂, room₃) = room ps refl in
       rw (reply, left₁, left₂, left₃) (
         past_within (docs_of ps) ids (length ps) (omega (arith, length-map ps (λ p. p.doc))) room₁,
         past_within (counts_of ps) counts (length ps) (omega (arith, length-map ps (λ p. length p.positions))) room₂,
         past_within (joined_positions ps) places (total_positions ps) (omega (arith, joined_many ps)) room₃,
       )
-  totals_kept forms (refuse x) room reply left₁ left₂ left₃ = rw (reply, left₁, left₂, left₃) (refl, refl, refl)
+  totals_kept (refuse x) room reply left₁ left₂ left₃ = rw (reply, left₁, left₂, left₃) (refl, refl, refl)
 
   pub postings_kept : (bytes name : List ℕ) → let a = term_postings bytes name (length ids) (length counts) (length places) in
-      r ≡ totals (term_long_forms bytes name) a → ids' ≡ filled docs_of a ids
-      → counts' ≡ filled counts_of a counts → places' ≡ filled joined_positions a places
+      r ≡ totals a → ids' ≡ filled docs_of a ids → counts' ≡ filled counts_of a counts → places' ≡ filled joined_positions a places
       → KeptPostings ids counts places r ids' counts' places'
   postings_kept bytes name =
-      totals_kept (term_long_forms bytes name) (term_postings bytes name (length ids) (length counts) (length places))
+      totals_kept (term_postings bytes name (length ids) (length counts) (length places))
       (λ ps e. postings_room bytes name (length ids) (length counts) (length places) e)

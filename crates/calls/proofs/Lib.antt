@@ -26,4 +26,3 @@ pub mod Occurs
 pub mod Ranks
 pub mod Sorted
 pub mod Beside
-pub mod AsBefore

@@ -1,12 +1,12 @@
 -- What is claimed of the definitions: each test is the same as its words, and so is a name's column. Proved in proofs/: WellNamed,
--- WellFormed, Whole, Passing, Accepts, Sizes, Characters, Ordered, Ranks, Beside, AsBefore.
+-- WellFormed, Whole, Passing, Accepts, Sizes, Characters, Ordered, Ranks, Beside.
 use Rattle.std.specs.Prelude.{ℕ, ◌+◌, ◌-◌, ◌*◌, ◌≤◌, ◌<◌, ◌≡◌, true, false, List, [], ◌∷◌, ◌++◌, map, ◌↔◌, length, take, replicate, get_or}
 use Rattle.std.proofs.Math.Option.{Option}
 use Rattle.common.specs.Elements.{◌∈◌}
 use Rattle.utf8.specs.Utf8.{Scalars, text, IsUtf8, decoded}
 use Rattle.segment.specs.declared.refusal.Refusal.{Refusal}
 use Rattle.segment.specs.Refusals.{no_room}
-use Rattle.segment.specs.Results.{Result, ok, refuse, ◌>>=◌}
+use Rattle.segment.specs.Results.{ok, refuse}
 use Rattle.segment.specs.Texts.{names}
 use Rattle.segment.specs.Opening.{open_segment}
 use Rattle.rules.specs.declared.rule.Rule.TheVariants.{Phrase}
@@ -23,10 +23,6 @@ use Rattle.calls.specs.Writing.{write}
 use Rattle.calls.specs.Sizes.{postings_size}
 use Rattle.calls.specs.Listing.{shown, name_column, listing}
 use Rattle.segment.specs.Records.{Posting, Segment}
-use Rattle.segment.specs.declared.replies.Opened.{Opened}
-use Rattle.segment.specs.declared.replies.Opened.TheVariants as answer
-use Rattle.calls.specs.Replies.{opened}
-use Rattle.calls.specs.Forms.{metadata_long_forms}
 
 -- a questioned name passes exactly when it has at most 16,777,216 bytes and is UTF-8
 abbrev pub WellNamedExactly : Type 0
@@ -121,17 +117,3 @@ pub record BesidePlain (bytes text ends : List ℕ) (id_room count_room : ℕ) :
 
 abbrev pub RankedBeside : Type 0
 RankedBeside = (bytes text ends : List ℕ) (id_room count_room : ℕ) → BesidePlain bytes text ends id_room count_room
-
--- ---- document 02, wish 10: nothing accepted so far is refused, and no other number changes (of `term_postings`: crate read_positions)
-
--- an answer without its third number
-abbrev pub counts_alone : Opened → Result (ℕ × ℕ)
-counts_alone (answer.Counts c) = ok (c.documents, c.terms)
-counts_alone (answer.Refused x) = refuse x
-
--- the third number aside, `open` answers document 01's two counts, or its refusal
-abbrev pub OpenAsBefore : Type 0
-OpenAsBefore =
-    (bytes : List ℕ)
-    → counts_alone (opened (metadata_long_forms bytes) (open_segment bytes))
-    ≡ (open_segment bytes >>= λ s. ok (length s.documents, length s.entries))

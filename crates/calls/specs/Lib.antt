@@ -2,7 +2,6 @@
 pub mod Replies
 pub mod Lookups
 pub mod Reads
-pub mod Forms
 pub mod Questions
 pub mod Order
 pub mod Ranked

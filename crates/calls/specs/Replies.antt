@@ -31,10 +31,10 @@ abbrev pub count_of : {A : Type 0} → Result (List A) → Counted
 count_of (ok xs) = counted.Count (length xs)
 count_of (refuse x) = counted.Refused x
 
--- `open`: the counts of documents and terms, and of long forms
-abbrev pub opened : (forms : ℕ) → Result Segment → Opened
-opened forms (ok s) = answer.Counts (record { documents = length s.documents; terms = length s.entries; long_forms = forms })
-opened forms (refuse x) = answer.Refused x
+-- `open`: the counts of documents and terms
+abbrev pub opened : Result Segment → Opened
+opened (ok s) = answer.Counts (record { documents = length s.documents; terms = length s.entries })
+opened (refuse x) = answer.Refused x
 
 -- `document_len`, `length_of`: the length, or that the document is unknown
 abbrev pub length_answer : Result (Option ℕ) → Length
@@ -58,10 +58,10 @@ df_answer (refuse x) = frequency.Refused x
 abbrev pub docs_of : List Posting → List ℕ
 docs_of ps = map (λ p. p.doc) ps
 
--- `term_postings`: how many postings, positions and long forms
-abbrev pub totals : (forms : ℕ) → Result (List Posting) → TermTotals
-totals forms (ok ps) = listed.Totals (record { postings = length ps; positions = total_positions ps; long_forms = forms })
-totals forms (refuse x) = listed.Refused x
+-- `term_postings`: how many postings and positions
+abbrev pub totals : Result (List Posting) → TermTotals
+totals (ok ps) = listed.Totals (record { postings = length ps; positions = total_positions ps })
+totals (refuse x) = listed.Refused x
 
 -- numbers of positions
 abbrev pub counts_of : List Posting → List ℕ

@@ -3,7 +3,6 @@
 //   Replies      a reply and a lent buffer, made of what a definition answers
 //   Lookups      a name's check; the postings of a term, the positions of a document
 //   Reads        the calls that read: documents, df, postings, positions
-//   Forms        the numbers that stand in a longer form than they need, counted: in the metadata, in a term's list
 //   Questions    the calls that ask: a question's checks, its answer
 //   Kept         a lent buffer after a call, whatever it was asked of
 //   Whole        a segment that opens, and of which every list decodes

@@ -5,13 +5,12 @@ use Rattle.std.proofs.Math.Option.{none, some}
 use Rattle.segment.specs.declared.replies.Opened.TheVariants as opened_as
 use Rattle.segment.specs.Results.{ok}
 use Rattle.segment.specs.Opening.{open_segment}
-use Rattle.calls.specs.Forms.{metadata_long_forms}
 use Rattle.calls.specs.Replies.{opened, length_answer}
 use Rattle.segment.specs.declared.replies.Counted.TheVariants as counted
 use Rattle.segment.specs.declared.replies.Length.TheVariants as len
 use Rattle.calls.specs.Reads.{document_lengths, document_len}
 use Rattle.read_documents.specs.Promise.{LengthsAnswered}
-use Rattle.cases.specs.Through.{calling, answering_forms}
+use Rattle.cases.specs.Through.{calling}
 use Rattle.cases.specs.Sealing.{refused}
 use Rattle.cases.specs.Segments.{segment_of_uneven}
 use Rattle.cases.specs.Faulty.{two_faults}
@@ -19,13 +18,12 @@ use Rattle.cases.specs.Faulty.{two_faults}
 -- ---- open itself answers the counts of bars and sounds
 
 -- Fails: the counts swapped
-counts : opened (metadata_long_forms segment_of_uneven) (open_segment segment_of_uneven)
-    ≡ opened_as.Counts (record { documents = 3; terms = 1; long_forms = 0 })
-unfolding answering_forms
+counts : opened (open_segment segment_of_uneven) ≡ opened_as.Counts (record { documents = 3; terms = 1 })
+unfolding calling
 counts = refl
 
 -- or the refusal. Fails: counts of 0 for bytes that are no segment
-no_counts : opened (metadata_long_forms []) (open_segment []) ≡ opened_as.Refused (record { kind = 1; which = 1; index = 0 })
+no_counts : opened (open_segment []) ≡ opened_as.Refused (record { kind = 1; which = 1; index = 0 })
 unfolding calling
 no_counts = refl
 

@@ -17,7 +17,6 @@ pub mod Handles
 pub mod Headers
 pub mod Listed
 pub mod Lists
-pub mod LongForms
 pub mod LookedUp
 pub mod MidiAsked
 pub mod MidiBars

@@ -20,8 +20,8 @@ reply k w i a b c d = record { kind = k; which = w; index = i; first = a; second
 abbrev some_refusal : Refusal
 some_refusal = record { kind = 13; which = 2; index = 5 }
 
--- documents first, terms second, long forms third. Fails: two exchanged, the third dropped, kind 1 for acceptance
-of_opened : opened_reply (opened.Counts (record { documents = 2; terms = 3; long_forms = 5 })) ≡ reply 0 0 0 2 3 5 0
+-- documents first, terms second. Fails: the two exchanged, kind 1 for acceptance
+of_opened : opened_reply (opened.Counts (record { documents = 2; terms = 3 })) ≡ reply 0 0 0 2 3 0 0
 of_opened = refl
 
 -- 1 and the length. Fails: the length alone
@@ -41,8 +41,8 @@ of_df = refl
 of_counted : counted_reply (counted.Count 2) ≡ reply 0 0 0 2 0 0 0
 of_counted = refl
 
--- postings first, positions second, long forms third. Fails: two exchanged, the third dropped
-of_totals : listed_reply (listed.Totals (record { postings = 2; positions = 4; long_forms = 7 })) ≡ reply 0 0 0 2 4 7 0
+-- postings first, positions second. Fails: the two exchanged
+of_totals : listed_reply (listed.Totals (record { postings = 2; positions = 4 })) ≡ reply 0 0 0 2 4 0 0
 of_totals = refl
 
 of_written : written_reply (written.Length 165) ≡ reply 0 0 0 165 0 0 0

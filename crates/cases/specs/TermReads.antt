@@ -9,7 +9,7 @@ use Rattle.calls.specs.Reads.{df, docs_with_term, term_postings, positions}
 use Rattle.read_terms.specs.Promise.{DocsAnswered}
 use Rattle.calls.specs.Replies.{df_answer}
 use Rattle.read_positions.specs.Promise.{PostingsAnswered, PositionsAnswered}
-use Rattle.cases.specs.Through.{calling, answering_forms}
+use Rattle.cases.specs.Through.{calling}
 use Rattle.cases.specs.Sealing.{refused, posting}
 use Rattle.cases.specs.Segments.{hat, a, b, segment_of_uneven, segment_of_spread}
 use Rattle.cases.specs.Faulty.{two_faults, late_fault, large_df, wrong_checksum}
@@ -112,9 +112,8 @@ docs_df = refl
 
 -- two postings, four positions. Fails: the first posting's alone, gaps for positions, counts for ids
 postings : PostingsAnswered segment_of_spread a (90 ∷ 91 ∷ 92 ∷ []) (80 ∷ 81 ∷ 82 ∷ []) (70 ∷ 71 ∷ 72 ∷ 73 ∷ 74 ∷ [])
-    (listed.Totals (record { postings = 2; positions = 4; long_forms = 0 })) (2 ∷ 70000 ∷ 92 ∷ []) (1 ∷ 3 ∷ 82 ∷ [])
-    (4 ∷ 0 ∷ 5 ∷ 4095 ∷ 74 ∷ [])
-unfolding answering_forms
+    (listed.Totals (record { postings = 2; positions = 4 })) (2 ∷ 70000 ∷ 92 ∷ []) (1 ∷ 3 ∷ 82 ∷ []) (4 ∷ 0 ∷ 5 ∷ 4095 ∷ 74 ∷ [])
+unfolding calling
 postings = record { reply = refl; ids_left = refl; counts_left = refl; positions_left = refl }
 
 -- all one short: the ids'. Fails: 13 1 1, the last short one

@@ -1,6 +1,5 @@
 -- What the cases compute through, by what is computed. A definition that is named here is opened, and nothing is said of it.
 use Rattle.leb128.specs.Leb128.{uleb128, chunks, encoded}
-use Rattle.leb128.specs.Forms.{long_forms_among, long_forms}
 use Rattle.crc32.specs.Crc32.{plus, divided, bits, message, complement_first, number, crc32_of}
 use Rattle.utf8.specs.Utf8.{sequences, starts, first_of, char_length, characters, utf8, octets, value, decoded_from, decoded}
 use Rattle.segment.specs.Names.{same, precedes}
@@ -12,7 +11,6 @@ use Rattle.segment.specs.Postings.{total_positions}
 use Rattle.segment.specs.Opening.{ranges, sections, section_checksum, checksums, contents, open_segment}
 use Rattle.calls.specs.Lookups.{well_named, postings_of, positions_of}
 use Rattle.calls.specs.Reads.{document_lengths, document_len, df, term_list, docs_with_term, term_postings, positions, joined_positions}
-use Rattle.calls.specs.Forms.{metadata_long_forms, term_long_forms}
 use Rattle.calls.specs.Given.{given, laid_flat}
 use Rattle.calls.specs.Checks.{small, shaped, check_documents, position_checks, check_positions, check_posting, check_postings, check_name}
 use Rattle.calls.specs.Checks.{check_terms, check_given, check_lists}
@@ -104,14 +102,6 @@ unfoldable pub calling : Unit {0}
 unfolding opening decoding well_named entry_of postings_of positions_of document_lengths document_len df term_list docs_with_term
     term_postings positions total_positions joined_positions
 calling = tt
-
-unfoldable pub forms : Unit {0}
-unfolding numbers long_forms_among long_forms
-forms = tt
-
-unfoldable pub answering_forms : Unit {0}
-unfolding calling forms metadata_long_forms term_long_forms
-answering_forms = tt
 
 unfoldable pub asking : Unit {0}
 unfolding opening decoding names ends_fit entry_of postings_of positions_of every some_of kept mentions within phrase_at rules.starts

@@ -9,4 +9,3 @@ pub mod Demanded
 pub mod Claimed
 pub mod Owned
 pub mod Checked
-pub mod Forms

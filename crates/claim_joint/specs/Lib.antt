@@ -6,4 +6,3 @@ pub mod Promise
 -- What is claimed of the definitions:
 pub mod Claims
 pub mod Checked
-pub mod Forms

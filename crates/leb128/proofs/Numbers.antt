@@ -12,7 +12,7 @@ use lib.ListN.{length, drop, get_or}
 use borrow.Author.Tests.{lt-ltb, le-ltb, le-leb, lt-leb, ltb-true, leb-true}
 use Rattle.leb128.specs.declared.varint.Decoded.{Decoded}
 use Rattle.leb128.specs.declared.varint.Decoded.TheVariants.{Value, Refused}
-use Rattle.leb128.specs.Leb128.{Leb, below, uleb128, limited, stored, shortest}
+use Rattle.leb128.specs.Leb128.{Leb, below, uleb128, limited, stored}
 use Rattle.leb128.specs.Promise.{decoded}
 use Rattle.leb128.specs.Claims as claims
 use Rattle.common.proofs.Loops.{lt_or_ge, drop_step, drop_end, and_left, and_right, true_false}
@@ -45,10 +45,9 @@ module _ (at : ℕ) (l : Option Leb) where
   pub long : (v k : ℕ) → l ≡ some (claims.leb_number v k) → 5 < k → Refused ≡ decoded at (limited l)
   long v k e h = rw (e, lt-leb k 5 h)
 
-  pub value : (v k x p : ℕ) {m : Bool} → l ≡ some (claims.leb_number v k) → k ≤ 5 → v < 2 ^ 32 → x ≡ v → p ≡ at + k
-      → m ≡ shortest (claims.leb_number v k)
-      → Value (record { value = x; next = record { at = p }; shortest = m }) ≡ decoded at (limited l)
-  value v k x p e f h a b c = rw (e, le-leb k 5 f, lt-ltb v (2 ^ 32) h, a, b, c)
+  pub value : (v k x p : ℕ) → l ≡ some (claims.leb_number v k) → k ≤ 5 → v < 2 ^ 32 → x ≡ v → p ≡ at + k
+      → Value (record { value = x; next = record { at = p } }) ≡ decoded at (limited l)
+  value v k x p e f h a b = rw (e, le-leb k 5 f, lt-ltb v (2 ^ 32) h, a, b)
 
 -- a number takes a byte at least
 below_size : (b : ℕ) (o : Option Leb) (t : Bool) (r : Leb) → cond t (some (claims.leb_number b 1)) (below b o) ≡ some r → 1 ≤ r.size

@@ -11,15 +11,14 @@ use native.Mathlib.Omega.{arith}
 use lib.Dec.{ltb, leb}
 use lib.ListN.{length, drop, get_or}
 use lib.Seq.{drop-append_seam}
-use borrow.Author.Tests.{lt-ltb, le-ltb, le-leb, leb-true, ltb-true, eq-eqb}
+use borrow.Author.Tests.{lt-ltb, le-ltb, le-leb, leb-true, ltb-true}
 use Rattle.leb128.specs.declared.varint.Decoded.{Decoded}
 use Rattle.leb128.specs.declared.varint.Decoded.TheVariants.{Value, Refused}
-use Rattle.leb128.specs.Leb128.{Leb, below, uleb128, limited, stored, chunks, encoded, shortest}
+use Rattle.leb128.specs.Leb128.{Leb, below, uleb128, limited, stored, chunks, encoded}
 use Rattle.leb128.specs.Promise.{decoded_at}
 use Rattle.leb128.specs.Claims as claims
 use Rattle.common.proofs.Loops.{lt_or_ge, and_left, and_right, true_false}
 use Rattle.leb128.proofs.Numbers.{value, size_pos}
-use Rattle.leb128.proofs.Sizes.{picked_le}
 
 -- a limit on the chunks does not show where the number is small enough for it
 fewer : (n x : ℕ) → x < 128 ^ suc n → chunks n x ≡ chunks (suc n) x
@@ -53,6 +52,10 @@ back (suc n) x rest h =
     (lt_or_ge x 128)
 
 -- one byte at least, as many as there are chunks at most, each of eight bits
+picked_le : (t : Bool) (a b : List ℕ) (m : ℕ) → length a ≤ m → length b ≤ m → length (cond t a b) ≤ m
+picked_le true a b m h k = h
+picked_le false a b m h k = k
+
 sizes : (n x : ℕ) → length (chunks n x) ≤ suc n
 unfolding chunks
 sizes zero x = omega arith
@@ -84,7 +87,7 @@ abbrev value_of : Option Leb → ℕ
 value_of none = 0
 value_of (some r) = r.value
 
-abbrev pub size_of : Option Leb → ℕ
+abbrev size_of : Option Leb → ℕ
 size_of none = 0
 size_of (some r) = r.size
 
@@ -171,15 +174,10 @@ accepted (some r) v k = (to (leb r.size 5 && ltb r.value (2 ^ 32)) refl, from)
 pub accepted_exactly : claims.AcceptedExactly
 accepted_exactly bytes v k = accepted (uleb128 bytes) v k
 
--- what is written is the shortest
-pub encoded_shortest : (x : ℕ) → shortest (claims.leb_number x (length (encoded x))) ≡ true
-encoded_shortest x = eq-eqb (length (encoded x)) (length (encoded x)) refl
-
--- the number that was stored after p is read there in its shortest form, and the reader is past it
+-- the number that was stored after p is read there, and the reader is past it
 pub stored_after : (p : List ℕ) (x : ℕ) (rest : List ℕ) → x < 2 ^ 32
     → decoded_at (p ++ (encoded x ++ rest)) (length p)
-    ≡ Value (record { value = x; next = record { at = length p + length (encoded x) }; shortest = true })
+    ≡ Value (record { value = x; next = record { at = length p + length (encoded x) } })
 stored_after p x rest h =
     sym (value (length p) _ x (length (encoded x)) x _
-    (ap uleb128 (drop-append_seam p (encoded x ++ rest)) ∙ (written_shortest x h).back rest) (encoded_size x) h refl refl
-    (sym (encoded_shortest x)))
+    (ap uleb128 (drop-append_seam p (encoded x ++ rest)) ∙ (written_shortest x h).back rest) (encoded_size x) h refl refl)

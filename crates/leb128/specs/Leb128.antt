@@ -1,5 +1,5 @@
 -- Unsigned LEB128 (DWARF 5, section 7.6): seven bits to a byte, the low ones first, and the high bit set on every byte but the last.
-use Rattle.std.specs.Prelude.{ℕ, zero, suc, ◌+◌, ◌*◌, ◌/◌, ◌%◌, ◌^◌, List, [], ◌∷◌, Bool, true, false, cond, ◌&&◌, ltb, leb, eqb, length}
+use Rattle.std.specs.Prelude.{ℕ, zero, suc, ◌+◌, ◌*◌, ◌/◌, ◌%◌, ◌^◌, List, [], ◌∷◌, Bool, true, false, cond, ◌&&◌, ltb, leb}
 use Rattle.std.proofs.Math.Option.{Option, none, some}
 
 -- A number at the front of a list of bytes: its value, and how many bytes it takes
@@ -33,8 +33,3 @@ chunks (suc n) x = let more = (x % 128 + 128) ∷ chunks n (x / 128) in cond (lt
 -- The bytes written for a number of 32 bits, for which four chunks before the last are enough. specs/Claims.antt: no form is shorter
 unfoldable pub encoded : ℕ → List ℕ
 encoded x = chunks 4 x
-
--- Whether a number stands in its shortest form: in as many bytes as are written for its value; any other form is long.
--- specs/Claims.antt: exactly when no shorter sequence of bytes is decoded to the same value
-abbrev pub shortest : Leb → Bool
-shortest r = eqb r.size (length (encoded r.value))

@@ -1,6 +1,5 @@
 -- What a reader must believe, in the order to read it:
 pub mod Leb128
-pub mod Forms
 -- What the calls promise:
 pub mod Promise
 -- What is claimed of the definitions:

@@ -14,12 +14,11 @@ pub struct Reader {
     pub at: usize,
 }
 
-// A number that was read, the reader advanced past it, and whether no shorter form says the same.
+// A number that was read, and the reader advanced past it.
 #[derive(Drop)]
 pub struct Number {
     pub value: u32,
     pub next: Reader,
-    pub shortest: bool,
 }
 
 // What a reader finds: a number, or no number that document 01 accepts.
@@ -29,19 +28,17 @@ pub enum Decoded {
     Refused,
 }
 
-// The number that was read, the reader at the offset past it, and the mark of its form.
-fn found(value: u32, at: usize, shortest: bool) -> Decoded
-    ensures { result ≡ Value (record { value = value; next = record { at = at }; shortest = shortest }) }
+// The number that was read, and the reader at the offset past it.
+fn found(value: u32, at: usize) -> Decoded
+    ensures { result ≡ Value (record { value = value; next = record { at = at } }) }
 {
     Decoded::Value(Number {
         value: value,
         next: Reader { at: at },
-        shortest: shortest,
     })
 }
 
-// A number at an offset, whose first two bytes, b0 and b1, say that more follow: three to five bytes, below 2^32. A last byte of 0 adds
-// nothing to the value: without it a shorter form says the same.
+// A number at an offset, whose first two bytes, b0 and b1, say that more follow: three to five bytes, below 2^32.
 fn decode_long(s: &[u8], at: usize, b0: u32, b1: u32) -> Decoded
     requires { at + 2 ≤ length s.now }
     ensures { result ≡ decoded at (limited (below b0 (below b1 (uleb128 (drop (at + 2) (was s)))))) }
@@ -54,7 +51,7 @@ fn decode_long(s: &[u8], at: usize, b0: u32, b1: u32) -> Decoded
     let at3 = at2 + 1;
     let x2 = b0 % 128 + b1 % 128 * 128 + b2 % 128 * 16384;
     if b2 < 128 {
-        return found(x2, at3, 0 < b2);
+        return found(x2, at3);
     }
     if s.len() <= at3 {
         return Decoded::Refused;
@@ -63,7 +60,7 @@ fn decode_long(s: &[u8], at: usize, b0: u32, b1: u32) -> Decoded
     let at4 = at3 + 1;
     let x3 = x2 + b3 % 128 * 2097152;
     if b3 < 128 {
-        return found(x3, at4, 0 < b3);
+        return found(x3, at4);
     }
     if s.len() <= at4 {
         return Decoded::Refused;
@@ -72,11 +69,11 @@ fn decode_long(s: &[u8], at: usize, b0: u32, b1: u32) -> Decoded
     if 16 <= b4 {
         return Decoded::Refused;
     }
-    found(x3 + b4 * 268435456, at4 + 1, 0 < b4)
+    found(x3 + b4 * 268435456, at4 + 1)
 }
 
 impl Reader {
-    // The number at the reader's offset: one to five bytes, below 2^32; long forms of small numbers included, and marked.
+    // The number at the reader's offset: one to five bytes, below 2^32; long forms of small numbers included.
     pub fn decode_u32(self, s: &[u8]) -> Decoded
         ensures { result ≡ decoded_at (was s) self.at }
     {
@@ -87,14 +84,14 @@ impl Reader {
         let b0 = byte(s[at]);
         let at1 = at + 1;
         if b0 < 128 {
-            return found(b0, at1, true);
+            return found(b0, at1);
         }
         if s.len() <= at1 {
             return Decoded::Refused;
         }
         let b1 = byte(s[at1]);
         if b1 < 128 {
-            return found(b0 % 128 + b1 * 128, at1 + 1, 0 < b1);
+            return found(b0 % 128 + b1 * 128, at1 + 1);
         }
         decode_long(s, at, b0, b1)
     }

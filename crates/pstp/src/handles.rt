@@ -65,7 +65,7 @@ pub extern "C" fn pstp_docs_with_term_checked(
     of_counted(docs_with_term_checked(bytes, handle, name, ids))
 }
 
-// first: postings; second: positions; third: numbers of the list in a long form; ids, position counts and positions in three buffers.
+// first: postings; second: positions; ids, position counts and positions in three buffers.
 #[unsafe(no_mangle)]
 pub extern "C" fn pstp_term_postings_checked(
     bytes: &[u8],

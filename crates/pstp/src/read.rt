@@ -2,7 +2,6 @@
 ghost use Rattle.std.specs.Prelude.{◌≡◌};
 ghost use Rattle.common.specs.Slices.{was, left};
 ghost use Rattle.segment.specs.Opening.{open_segment};
-ghost use Rattle.calls.specs.Forms.{metadata_long_forms};
 ghost use Rattle.calls.specs.Replies.{opened, length_answer, df_answer};
 ghost use Rattle.calls.specs.Reads.{document_len, df as df_of};
 ghost use Rattle.read_documents.specs.Promise.{LengthsAnswered};
@@ -17,10 +16,10 @@ use read_positions::postings::{positions, term_postings};
 use read_terms::terms::{df, docs_with_term};
 use segment::ids::DocId;
 
-// first: documents; second: terms; third: numbers of the metadata in a long form.
+// first: documents; second: terms.
 #[unsafe(no_mangle)]
 pub extern "C" fn pstp_open(bytes: &[u8]) -> Reply
-    ensures { result ≡ opened_reply (opened (metadata_long_forms (was bytes)) (open_segment (was bytes))) }
+    ensures { result ≡ opened_reply (opened (open_segment (was bytes))) }
 {
     of_opened(open(bytes))
 }
@@ -57,7 +56,7 @@ pub extern "C" fn pstp_docs_with_term(bytes: &[u8], name: &[u8], ids: &mut [u32]
     of_counted(docs_with_term(bytes, name, ids))
 }
 
-// first: postings; second: positions; third: numbers of the list in a long form; ids, position counts and positions in three buffers.
+// first: postings; second: positions; ids, position counts and positions in three buffers.
 #[unsafe(no_mangle)]
 pub extern "C" fn pstp_term_postings(
     bytes: &[u8],

@@ -17,8 +17,6 @@ use Rattle.segment.specs.declared.replies.DocFreq.TheVariants as frequency
 use Rattle.segment.specs.declared.checked.Checked.TheVariants.{Passed, Refused}
 use Rattle.segment.specs.Steps.{checked}
 use Rattle.segment.specs.Refusals.{no_room}
-use Rattle.leb128.specs.Forms.{long_forms}
-use Rattle.segment.specs.Records.{between}
 use Rattle.calls.specs.Lookups.{well_named}
 use Rattle.calls.specs.Replies.{fronted}
 use Rattle.calls.proofs.Kept.{past_none, past_within, docs_kept, positions_kept, postings_kept}
@@ -131,8 +129,7 @@ module _ (bytes : List ℕ) (h : Handle) (name ids counts places : List ℕ) whe
         record { kept = (refl, refl, refl); plain = λ of. postings_stopped bytes name ids counts places (l (own_vouches u of)) }
 
     pub postings_nowhere : ListNamed bytes h name named.Absent
-        → PostingsChecked bytes h name ids counts places (listed.Totals (record { postings = 0; positions = 0; long_forms = 0 })) ids
-        counts places
+        → PostingsChecked bytes h name ids counts places (listed.Totals (record { postings = 0; positions = 0 })) ids counts places
     postings_nowhere l = record {
       kept = (past_none ids, past_none counts, past_none places);
       plain = λ of. postings_none bytes name ids counts places (l (own_vouches u of));
@@ -173,11 +170,10 @@ module _ (bytes : List ℕ) (h : Handle) (name ids counts places : List ℕ) whe
                 × (length (all_positions (held bytes p)) ≤ length places)
             postings_fit = (omega (arith, few), omega (arith, few), omega (arith, positions_within (held bytes p)))
 
-            pub postings_listed : {ids' counts' places' : List ℕ} {forms : ℕ} → forms ≡ long_forms (between p.start p.end bytes)
-                → FilledPostings (held bytes p) ids counts places ids' counts' places'
+            pub postings_listed : {ids' counts' places' : List ℕ} → FilledPostings (held bytes p) ids counts places ids' counts' places'
                 → PostingsChecked bytes h name ids counts places
-                (listed.Totals (record { postings = n; positions = total; long_forms = forms })) ids' counts' places'
-            postings_listed g f = record {
+                (listed.Totals (record { postings = n; positions = total })) ids' counts' places'
+            postings_listed f = record {
               kept =
                   rw (f.ids_left, f.counts_left, f.positions_left) (
                     past_within (map (λ s. s.doc) (held bytes p)) ids n
@@ -188,7 +184,7 @@ module _ (bytes : List ℕ) (h : Handle) (name ids counts places : List ℕ) whe
                   );
               plain =
                   λ of.
-                  postings_filled bytes name ids counts places (list_counted (l (own_vouches u of)).1 all) is room₁ room₂ room₃ g f;
+                  postings_filled bytes name ids counts places (list_counted (l (own_vouches u of)).1 all) is room₁ room₂ room₃ f;
             }
 
 -- ---- the positions of a term in a document

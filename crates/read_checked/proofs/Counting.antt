@@ -48,8 +48,8 @@ lengths_total [] = refl
 lengths_total (p ∷ ps) = ap (λ (n : ℕ). length p.positions + n) (lengths_total ps)
 
 -- a decoded list has as many positions as its counts say
-pub list_counted : {bytes name : List ℕ} {start end df positions n : ℕ} → DecodedList bytes name start end df positions
-    → n ≡ counts_in (held_postings df none (drop start bytes)) → DecodedList bytes name start end df n
+pub list_counted : {bytes name : List ℕ} {start df positions n : ℕ} → DecodedList bytes name start df positions
+    → n ≡ counts_in (held_postings df none (drop start bytes)) → DecodedList bytes name start df n
 list_counted d is = record {
   postings = d.postings;
   decoded = d.decoded;
@@ -57,5 +57,4 @@ list_counted d is = record {
   counts = d.counts;
   count = d.count;
   total = sym (is ∙ ap total d.counts ∙ lengths_total d.postings);
-  forms = d.forms;
 }

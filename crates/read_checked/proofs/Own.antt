@@ -53,7 +53,7 @@ module _ (bytes : List ℕ) (h : Handle) (name : List ℕ) where
 
     module _ (t : TermList) (is : TermFound bytes (layout_of h) name (found.List t)) where
       -- every list decodes
-      pub named_sure : h.level ≡ 2 → ListNamed bytes h name (named.List (record { start = t.start; end = t.end; df = t.df }))
+      pub named_sure : h.level ≡ 2 → ListNamed bytes h name (named.List (record { start = t.start; df = t.df }))
       named_sure top v =
           let (ps, d) = name_gives v.segment name (v.lists top) (is.2 v.segment v.is_open) in
           let told : tally.Positions (total_positions ps) ≡ tallied (decode documents (list_entry bytes t)) =
@@ -62,8 +62,7 @@ module _ (bytes : List ℕ) (h : Handle) (name : List ℕ) where
 
       -- the list was decoded
       module _ {r : Tally} (told : r ≡ tallied (decode documents (list_entry bytes t))) where
-        pub named_decoded : {n : ℕ} → r ≡ tally.Positions n
-            → ListNamed bytes h name (named.List (record { start = t.start; end = t.end; df = t.df }))
+        pub named_decoded : {n : ℕ} → r ≡ tally.Positions n → ListNamed bytes h name (named.List (record { start = t.start; df = t.df }))
         named_decoded {n} e v = (n, list_decoded bytes name fine (layout_of h) (opened v) t is told e)
 
         pub named_refused : {x : Refusal} → r ≡ tally.Refused x → ListNamed bytes h name (named.Refused x)

@@ -10,11 +10,10 @@ use read_terms::terms::check_name;
 use segment::checked::Checked;
 use segment::refusal::Refusal;
 
-// Where a list stands in the segment, and how many postings it has.
+// Where a list starts in the segment, and how many postings it has.
 #[derive(Drop)]
 pub struct ListPlace {
     pub start: usize,
-    pub end: usize,
     pub df: u32,
 }
 
@@ -43,14 +42,12 @@ pub fn named_list(bytes: &[u8], h: Handle, name: &[u8]) -> Named
     if h.level == 2 {
         return Named::List(ListPlace {
             start: list.start,
-            end: list.end,
             df: list.df,
         });
     }
     match decode_postings(bytes, at, list) {
         Tally::Positions(_) => Named::List(ListPlace {
             start: list.start,
-            end: list.end,
             df: list.df,
         }),
         Tally::Refused(x) => Named::Refused(x),

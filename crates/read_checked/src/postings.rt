@@ -11,7 +11,6 @@ use common::widths::long;
 use handle::handle::{Handle, usable};
 use read_cursors::positions::Positions;
 use read_cursors::postings::Postings;
-use read_forms::forms::long_forms_between;
 use read_positions::postings::{fill_positions, fill_postings, positions, term_postings};
 use segment::ids::DocId;
 use segment::refusal::no_room;
@@ -30,7 +29,7 @@ fn count_positions(bytes: &[u8], at: usize, df: u32) -> usize
     total
 }
 
-// All postings of a term: how many postings, positions and long forms; ids, position counts and positions in three buffers.
+// All postings of a term: how many postings and positions; ids, position counts and positions in three buffers.
 pub fn term_postings_checked(
     bytes: &[u8],
     h: Handle,
@@ -51,7 +50,6 @@ pub fn term_postings_checked(
             return TermTotals::Totals(Totals {
                 postings: 0,
                 positions: 0,
-                long_forms: 0,
             });
         }
         Named::Refused(x) => {
@@ -73,7 +71,6 @@ pub fn term_postings_checked(
     TermTotals::Totals(Totals {
         postings: n,
         positions: total,
-        long_forms: long_forms_between(bytes, list.start, list.end),
     })
 }
 

@@ -1,9 +1,10 @@
 -- A stored number by its offset in a slice is the definitions' number off the front of a list.
 -- Assumes nothing.
 use mathlib.Core.Path.{◌≡◌, refl, sym, ap, ◌∙◌}
-use mathlib.Core.List.{List}
+use mathlib.Core.List.{List, [], ◌∷◌}
+use mathlib.Core.Bool.{Bool, true, false, cond}
 use mathlib.Core.Option.{Option, none, some}
-use Prim.Native.Nat.{ℕ, ◌+◌, ◌-◌, ◌^◌, ◌≤◌, ◌<◌}
+use Prim.Native.Nat.{ℕ, suc, ◌+◌, ◌-◌, ◌^◌, ◌≤◌, ◌<◌}
 use native.Mathlib.Omega.{arith}
 use lib.Dec.{ltb}
 use lib.ListN.{length, drop, length-drop}
@@ -11,10 +12,11 @@ use lib.Seq.{drop-drop}
 use borrow.Author.Tests.{lt-ltb, le-ltb}
 use Rattle.leb128.specs.declared.varint.Number.{Number}
 use Rattle.leb128.specs.declared.varint.Decoded.TheVariants.{Value, Refused}
-use Rattle.leb128.specs.Leb128.{Leb, stored, shortest}
+use Rattle.leb128.specs.Leb128.{Leb, below, uleb128, stored}
 use Rattle.leb128.specs.Promise.{decoded, decoded_at}
 use Rattle.common.proofs.Loops.{left_suc, left_none}
-use Rattle.leb128.proofs.Standing.{stored_number}
+use Rattle.leb128.proofs.Numbers.{size_pos}
+use Rattle.leb128.proofs.Shortest.{accepted_exactly}
 use Rattle.segment.specs.declared.refusal.Refusal.{Refusal}
 use Rattle.segment.specs.Refusals.{postings, invalid_varint}
 use Rattle.segment.specs.Results.{ok, refuse}
@@ -22,6 +24,23 @@ use Rattle.segment.specs.Records.{Read, number, number_or, at_gap, rises}
 use Rattle.segment.specs.Postings.{read_value}
 use Rattle.read_cursors.specs.Held.{past, skipped}
 use Rattle.segment.proofs.Binds.{refuse_ok, ok_same, bind_gives, both_gives, carried}
+
+-- a number takes no more bytes than there are
+below_fits : (b m : ℕ) (o : Option Leb) (t : Bool) (r : Leb) → cond t (some (record { value = b; size = 1 })) (below b o) ≡ some r
+    → ((q : Leb) → o ≡ some q → q.size ≤ m) → r.size ≤ suc m
+below_fits b m o true r e ih = let f : 1 ≡ r.size = cc in omega arith
+below_fits b m none false r e ih = let z : ◌≡◌ {A = ℕ} 0 1 = cc in absurd (omega arith)
+below_fits b m (some q) false r e ih = let f : suc q.size ≡ r.size = cc in omega (arith, ih q refl)
+
+pub size_fits : (l : List ℕ) (r : Leb) → uleb128 l ≡ some r → r.size ≤ length l
+unfolding uleb128
+size_fits [] r e = let z : ◌≡◌ {A = ℕ} 0 1 = cc in absurd (omega arith)
+size_fits (b ∷ l) r e = below_fits b (length l) (uleb128 l) (ltb b 128) r e (λ q f. size_fits l q f)
+
+stored_fits : (bytes : List ℕ) (r : Leb) → stored bytes ≡ some r → (1 ≤ r.size) × (r.size ≤ length bytes) × (r.value < 2 ^ 32)
+stored_fits bytes r e =
+    let a = (accepted_exactly bytes r.value r.size).0 e in
+    (size_pos bytes r a.0, size_fits bytes r a.0, a.2)
 
 -- the index of a number shows in its refusal alone
 pub carried_number : (section i j : ℕ) (bytes : List ℕ) (o : Option Leb)
@@ -47,7 +66,7 @@ module _ (s : List ℕ) (at : ℕ) where
   module _ {n : Number} where
     fields : (r : Leb) → decoded at (some r) ≡ Value n → (r.value ≡ n.value) × (at + r.size ≡ n.next.at)
     fields r e =
-        let q : record { value = r.value; next = record { at = at + r.size }; shortest = shortest r } ≡ n = cc in
+        let q : record { value = r.value; next = record { at = at + r.size } } ≡ n = cc in
         (ap (λ (x : Number). x.value) q, ap (λ (x : Number). x.next.at) q)
 
     value_or : (section i : ℕ) (o : Option Leb) → decoded at o ≡ Value n
@@ -63,7 +82,7 @@ module _ (s : List ℕ) (at : ℕ) where
     taken_of none u e = let z : ◌≡◌ {A = ℕ} 0 1 = cc in absurd (omega arith)
     taken_of (some r) u e =
         let f = fields r e in
-        let g = stored_number (drop at s) r u in
+        let g = stored_fits (drop at s) r u in
         record { small = omega arith; onward = omega arith; inside = omega (arith, length-drop at s) }
 
     pub number_taken : decoded_at s at ≡ Value n → Taken s at n
@@ -80,7 +99,7 @@ module _ (section i : ℕ) (bytes : List ℕ) {n : Read ℕ} where
   given_of (some r) u e =
       let f = ap (λ (x : Read ℕ). x.got) (ok_same e) in
       let g = ap (λ (x : Read ℕ). length x.rest) (ok_same e) in
-      let h = stored_number bytes r u in
+      let h = stored_fits bytes r u in
       record { small = omega arith; shorter = omega (arith, length-drop r.size bytes) }
 
   pub number_given : number section i bytes ≡ ok n → Given bytes n

@@ -3,7 +3,6 @@
 use Prim.Native.Nat.{ℕ, zero, suc, ◌+◌, ◌^◌, ◌≤◌, ◌<◌}
 use mathlib.Core.Path.{◌≡◌, refl, sym, ap, ◌∙◌}
 use mathlib.Core.List.{List, [], ◌∷◌}
-use mathlib.Core.Bool.{true}
 use mathlib.Core.Option.{some}
 use native.Mathlib.Omega.{arith}
 use lib.ListN.{length, drop, get_or, length-drop}
@@ -14,7 +13,6 @@ use Rattle.leb128.specs.declared.varint.Number.{Number}
 use Rattle.leb128.specs.declared.varint.Decoded.TheVariants.{Value}
 use Rattle.leb128.specs.Leb128.{uleb128, stored}
 use Rattle.leb128.specs.Promise.{decoded, decoded_at}
-use Rattle.leb128.proofs.Marks.{one_mark}
 use Rattle.read_cursors.specs.Held.{skipped}
 use Rattle.read_cursors.specs.Singles.{Singles}
 
@@ -31,7 +29,7 @@ low_skipped (suc c) (b ∷ l) h low =
 
 -- a number, and the reader past it
 abbrev pub single : ℕ → ℕ → Number
-single value at = record { value = value; next = record { at = at }; shortest = true }
+single value at = record { value = value; next = record { at = at } }
 
 module _ (s : List ℕ) (at count : ℕ) (ones : Singles s at count) where
   -- all but the last few are skipped at once
@@ -47,4 +45,3 @@ module _ (s : List ℕ) (at count : ℕ) (ones : Singles s at count) where
       let low : get_or s here 0 < 128 = rw e (ones.low i h) in
       ap (λ (l : List ℕ). decoded here (stored l)) (drop_step s here 0 (omega (arith, ones.room)))
       ∙ ap (decoded here) (stored_low (get_or s here 0) (drop (here + 1) s) low)
-      ∙ ap (λ m. Value (record { value = get_or s here 0; next = record { at = here + 1 }; shortest = m })) (one_mark (get_or s here 0) low)

@@ -54,7 +54,6 @@ pub fn read_value(
     ValueStep::Next(Number {
         value: value,
         next: next,
-        shortest: gap.shortest,
     })
 }
 

@@ -15,7 +15,6 @@ use Rattle.leb128.specs.declared.varint.Number.{Number}
 use Rattle.leb128.specs.declared.varint.Decoded.TheVariants.{Value}
 use Rattle.leb128.specs.Promise.{decoded_at}
 use Rattle.leb128.proofs.Numbers.{last, value}
-use Rattle.leb128.proofs.Marks.{one_mark}
 use Rattle.segment.specs.Refusals.{postings, doc_id_overflow, invalid_layout, non_increasing_posting_id}
 use Rattle.segment.specs.Results.{ok}
 use Rattle.segment.specs.Records.{Document, at_gap, rises}
@@ -30,10 +29,9 @@ use Rattle.read_many.specs.Steps.{Leaves, Placed, EndsWell, Posted, SurePosting,
 
 -- a number of one byte
 pub one_byte : (s : List ℕ) (at x next : ℕ) → at < length s → x ≡ get_or s at 0 → x < 128 → next ≡ at + 1
-    → decoded_at s at ≡ Value (record { value = x; next = record { at = next }; shortest = true })
+    → decoded_at s at ≡ Value (record { value = x; next = record { at = next } })
 one_byte s at x next h e k f =
-    sym (value at _ (get_or s at 0) 1 x next (last s at h (omega arith)) (omega arith) (omega arith) e f
-    (sym (one_mark (get_or s at 0) (omega arith))))
+    sym (value at _ (get_or s at 0) 1 x next (last s at h (omega arith)) (omega arith) (omega arith) e f)
 
 -- ---- positions
 

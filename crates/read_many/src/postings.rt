@@ -16,7 +16,6 @@ fn no_number() -> Number
     Number {
         value: 0,
         next: Reader { at: 0 },
-        shortest: false,
     }
 }
 
@@ -30,7 +29,6 @@ pub fn number(list: &[u8], at: usize) -> Number
             return Number {
                 value: b,
                 next: Reader { at: at + 1 },
-                shortest: true,
             };
         }
     }

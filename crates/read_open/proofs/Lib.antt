@@ -6,4 +6,3 @@ pub mod Lookup
 pub mod Openings
 pub mod Fitting
 pub mod Own
-pub mod Answered

@@ -13,6 +13,7 @@ use Rattle.segment.specs.declared.checked.Checked.{Checked}
 use Rattle.segment.specs.declared.checked.Checked.TheVariants.{Passed, Refused}
 use Rattle.read_open.specs.declared.header.Opening.{Opening}
 use Rattle.read_open.specs.declared.header.Opening.TheVariants as opening
+use Rattle.segment.specs.declared.replies.Opened.TheVariants as answer
 use Rattle.segment.specs.Refusals.{term_directory, term_bytes, document_metadata, postings, checksum_mismatch}
 use Rattle.segment.specs.Results.{ok, refuse}
 use Rattle.segment.specs.Records.{Segment, field}
@@ -23,6 +24,7 @@ use Rattle.read_open.specs.Layouts.{layout_in}
 use Rattle.read_open.specs.Steps.{SectionsFollow, cut}
 use Rattle.segment.specs.Steps.{checked}
 use Rattle.read_open.specs.Opened.{no_entry, IsOpen, Opens}
+use Rattle.calls.specs.Replies.{opened}
 use Rattle.segment.proofs.Binds.{bind_gives, ok_same}
 use Rattle.read_cursors.proofs.DocumentsHeld.{metadata_held}
 use Rattle.segment.proofs.Accepted.{passed_ok, refused_is, stops, goes, same_check}
@@ -160,3 +162,13 @@ module _ (bytes : List ℕ) (l : Layout) where
 pub no_sections : (bytes : List ℕ) {x : Refusal} → sections bytes ≡ refuse x → open_segment bytes ≡ refuse x
 unfolding open_segment
 no_sections bytes e = rw e
+
+-- ---- the counts
+
+module _ (bytes : List ℕ) {r : Opening} (o : Opens bytes r) where
+  pub opened_counts : {l : Layout} → r ≡ opening.Layout l
+      → answer.Counts (record { documents = l.documents; terms = l.terms }) ≡ opened (open_segment bytes)
+  opened_counts e = let (s, q, is) = rw e at o in rw (q, is.document_count, is.term_count)
+
+  pub opened_refused : {x : Refusal} → r ≡ opening.Refused x → answer.Refused x ≡ opened (open_segment bytes)
+  opened_refused e = rw (rw e at o)

@@ -58,10 +58,6 @@ module _ (bytes : List ℕ) where
       on_to_ranges bytes (leb-true header_size (length bytes) long) marked refl (eqb-true (field 4 8 bytes) 2 version) refl
       (eqb-true (field 4 12 bytes) 0 flags) (own_ranges k)
 
-  -- where the bytes open, the sections are those that the header's numbers cut
-  pub own_cut : {s : Segment} → open_segment bytes ≡ ok s → sections bytes ≡ ok (cut bytes (layout_in bytes))
-  own_cut e = let (parts, read, _, _) = open_parts bytes e in sym (own_sections read).reads
-
   pub own_layout : {s : Segment} → open_segment bytes ≡ ok s → IsOpen bytes (layout_in bytes) s
   own_layout e =
       let (parts, read, _, c) = open_parts bytes e in

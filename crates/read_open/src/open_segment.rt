@@ -6,13 +6,11 @@ ghost use Rattle.read_open.specs.Steps.{cut, SectionsFollow};
 ghost use Rattle.segment.specs.Records.{between};
 ghost use Rattle.segment.specs.Steps.{checked};
 ghost use Rattle.read_open.specs.Opened.{Opens};
-ghost use Rattle.calls.specs.Forms.{metadata_long_forms};
 ghost use Rattle.calls.specs.Replies.{opened};
 
 use crate::directory::decode_term_directory;
 use crate::header::{Layout, Opening, read_header};
 use crc32::checksum::crc32;
-use read_forms::forms::long_forms_between;
 use read_lists::metadata::decode_document_lengths;
 use segment::checked::Checked;
 use segment::fixed::{HEADER_SIZE, read_u32_at};
@@ -87,15 +85,14 @@ pub fn open_layout(bytes: &[u8]) -> Opening
     }
 }
 
-// Opens a segment: the two counts and the number of long forms in the metadata, or the first refusal in document 01's order.
+// Opens a segment: the two counts, or the first refusal in document 01's order.
 pub fn open(bytes: &[u8]) -> Opened
-    ensures { result ≡ opened (metadata_long_forms (was bytes)) (open_segment (was bytes)) }
+    ensures { result ≡ opened (open_segment (was bytes)) }
 {
     match open_layout(bytes) {
         Opening::Layout(at) => Opened::Counts(Counts {
             documents: at.documents,
             terms: at.terms,
-            long_forms: long_forms_between(bytes, at.metadata, at.lists),
         }),
         Opening::Refused(x) => Opened::Refused(x),
     }

@@ -2,7 +2,7 @@
 -- Assumes nothing.
 use mathlib.Core.Path.{◌≡◌, refl, ap, ◌∙◌}
 use mathlib.Core.List.{List, [], ◌∷◌, map}
-use mathlib.Core.Option.{Option, none, some}
+use mathlib.Core.Option.{none}
 use Prim.Native.Nat.{ℕ, ◌≤◌, ◌<◌}
 use native.Mathlib.Omega.{arith}
 use lib.ListN.{length, drop, length-append}
@@ -10,16 +10,8 @@ use borrow.Author.Tests.{le-leb, lt-leb}
 use Rattle.segment.specs.declared.refusal.Refusal.{Refusal}
 use Rattle.segment.specs.Refusals.{no_room}
 use Rattle.segment.specs.Results.{ok, refuse}
-use Rattle.segment.specs.Records.{Document, Entry, between}
-use Rattle.segment.specs.Directory.{entry_of}
-use Rattle.segment.specs.Opening.{open_segment}
 use Rattle.segment.specs.Postings.{total_positions}
 use Rattle.read_cursors.specs.Held.{PostingAt, positions_there, held_postings, posting_of}
-use Rattle.segment.proofs.Binds.{bind_gives}
-use Rattle.leb128.specs.Forms.{long_forms}
-use Rattle.read_forms.proofs.Standing.{list_counted}
-use Rattle.calls.specs.Lookups.{well_named, found, postings_of}
-use Rattle.calls.specs.Forms.{entry_long_forms, term_long_forms}
 use Rattle.calls.specs.Replies.{fronted}
 use Rattle.calls.specs.Reads.{term_list, term_postings, joined_positions}
 use Rattle.read_terms.specs.Steps.{DecodedList}
@@ -40,7 +32,7 @@ unfolding total_positions
 joined_many [] = refl
 joined_many (s ∷ ss) = omega (arith, length-append (positions_there s) (all_positions ss), joined_many ss)
 
-module _ {bytes name : List ℕ} {start end df total : ℕ} (d : DecodedList bytes name start end df total) where
+module _ {bytes name : List ℕ} {start df total : ℕ} (d : DecodedList bytes name start df total) where
   pub positions_many : length (all_positions (held_postings df none (drop start bytes))) ≡ total
   positions_many = joined_many (held_postings df none (drop start bytes)) ∙ ap total_positions d.walked ∙ d.total
 
@@ -48,18 +40,6 @@ module _ {bytes name : List ℕ} {start end df total : ℕ} (d : DecodedList byt
   positions_are = joined_same (held_postings df none (drop start bytes)) ∙ ap joined_positions d.walked
 
 -- ---- the call
-
--- a list that decodes to nothing has no numbers
-no_forms : (bytes name : List ℕ) → term_list bytes name ≡ ok [] → term_long_forms bytes name ≡ 0
-unfolding term_list term_long_forms postings_of
-no_forms bytes name e =
-    let (_, _, f) = bind_gives (well_named name) _ e in
-    let (s, o, g) = bind_gives (open_segment bytes) _ f in
-    rw o (of_entry s.documents (entry_of s.entries name) g)
-  where
-    of_entry : (documents : List Document) (o : Option Entry) → found documents o ≡ ok [] → entry_long_forms o ≡ 0
-    of_entry documents none g = refl
-    of_entry documents (some e) g = (list_counted documents e [] g).1
 
 module _ (bytes name ids counts places : List ℕ) where
   postings_refused : {x : Refusal} → term_postings bytes name (length ids) (length counts) (length places) ≡ refuse x
@@ -72,15 +52,14 @@ module _ (bytes name ids counts places : List ℕ) where
   postings_stopped e = postings_refused (rw e)
 
   pub postings_none : term_list bytes name ≡ ok []
-      → PostingsAnswered bytes name ids counts places (listed.Totals (record { postings = 0; positions = 0; long_forms = 0 })) ids
-      counts places
+      → PostingsAnswered bytes name ids counts places (listed.Totals (record { postings = 0; positions = 0 })) ids counts places
   unfolding term_postings total_positions joined_positions
   postings_none e =
       let told : term_postings bytes name (length ids) (length counts) (length places) ≡ ok [] =
       rw (e, le-leb 0 (length ids) (omega arith), le-leb 0 (length counts) (omega arith), le-leb 0 (length places) (omega arith)) in
-      record { reply = rw (told, no_forms bytes name e); ids_left = rw told; counts_left = rw told; positions_left = rw told }
+      record { reply = rw told; ids_left = rw told; counts_left = rw told; positions_left = rw told }
 
-  module _ {start end df total n : ℕ} (d : DecodedList bytes name start end df total) (is : n ≡ df) where
+  module _ {start df total n : ℕ} (d : DecodedList bytes name start df total) (is : n ≡ df) where
     pub ids_no_room : length ids < n → PostingsAnswered bytes name ids counts places (listed.Refused (no_room 1 n)) ids counts places
     unfolding term_postings
     ids_no_room h = postings_refused (rw (d.decoded, d.count, ← is, lt-leb n (length ids) h))
@@ -121,12 +100,12 @@ module _ (bytes name ids counts places : List ℕ) where
                 le-leb total (length places) h₃,
               )
 
-          pub postings_filled : {ids' counts' places' : List ℕ} {forms : ℕ} → forms ≡ long_forms (between start end bytes)
+          pub postings_filled : {ids' counts' places' : List ℕ}
               → FilledPostings (held_postings df none (drop start bytes)) ids counts places ids' counts' places'
               → PostingsAnswered bytes name ids counts places
-              (listed.Totals (record { postings = n; positions = total; long_forms = forms })) ids' counts' places'
-          postings_filled g f = record {
-            reply = rw (postings_told, d.count, is, d.total, d.forms, g);
+              (listed.Totals (record { postings = n; positions = total })) ids' counts' places'
+          postings_filled f = record {
+            reply = rw (postings_told, d.count, is, d.total);
             ids_left = rw postings_told (f.ids_left ∙ ap (λ l. fronted l ids) (docs_are d));
             counts_left = rw postings_told (f.counts_left ∙ ap (λ l. fronted l counts) d.counts);
             positions_left = rw postings_told (f.positions_left ∙ ap (λ l. fronted l places) (positions_are d));

@@ -3,4 +3,3 @@ pub mod Answering
 pub mod Sought
 pub mod Seeking
 pub mod Turns
-pub mod AsBefore

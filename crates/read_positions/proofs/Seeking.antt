@@ -40,7 +40,7 @@ module _ (bytes name : List ℕ) (id : ℕ) (places : List ℕ) where
   no_list e = nothing (rw (e, le-leb 0 (length places) (omega arith)))
 
   -- a list that was decoded, and the cursor that was sought in it
-  module _ {start end df total : ℕ} (d : DecodedList bytes name start end df total) (first here : Postings)
+  module _ {start df total : ℕ} (d : DecodedList bytes name start df total) (first here : Postings)
       (starts : postings_from bytes first ≡ held_postings df none (drop start bytes)) (sought : SoughtPosting bytes id first here) where
     pub not_listed : (0 < here.remaining → here.doc.0 ≡ id → ⊥) → PositionsAnswered bytes name id places (counted.Count 0) places
     unfolding positions

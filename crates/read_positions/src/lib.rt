@@ -1,4 +1,3 @@
 // The calls that list the positions of a term: term_postings, positions (postings). Crate calls defines what they answer
-// (specs/Reads.antt); specs/Promise.antt here says what they leave in the lent buffers, specs/Claims.antt what did not
-// change when `term_postings` began to count long forms.
+// (specs/Reads.antt); specs/Promise.antt here says what they leave in the lent buffers.
 pub mod postings;

@@ -11,7 +11,6 @@ ghost use Rattle.read_positions.specs.Steps.{FilledPostings, all_positions};
 use common::widths::long;
 use read_cursors::positions::Positions;
 use read_cursors::postings::Postings;
-use read_forms::forms::long_forms_between;
 use read_terms::terms::{Decoding, decode_term};
 use segment::ids::DocId;
 use segment::refusal::no_room;
@@ -61,7 +60,7 @@ pub fn fill_postings(
     }
 }
 
-// All postings of a term: how many postings, positions and long forms; ids, position counts and positions in three buffers.
+// All postings of a term: how many postings and positions; ids, position counts and positions in three buffers.
 pub fn term_postings(
     bytes: &[u8],
     name: &[u8],
@@ -78,7 +77,6 @@ pub fn term_postings(
             return TermTotals::Totals(Totals {
                 postings: 0,
                 positions: 0,
-                long_forms: 0,
             });
         }
         Decoding::Refused(x) => {
@@ -100,7 +98,6 @@ pub fn term_postings(
     TermTotals::Totals(Totals {
         postings: n,
         positions: total,
-        long_forms: long_forms_between(bytes, list.start, list.end),
     })
 }
 

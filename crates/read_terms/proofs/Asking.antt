@@ -27,12 +27,10 @@ use Rattle.segment.proofs.Accepted.{passed_ok, refused_is}
 use Rattle.read_terms.specs.declared.find.TermList.{TermList}
 use Rattle.read_terms.specs.declared.find.TermFound.TheVariants as found
 use Rattle.calls.specs.Lookups.{well_named, postings_of}
-use Rattle.read_terms.specs.Steps.{bytes_of_list, list_entry, TermFound, DecodedList}
+use Rattle.read_terms.specs.Steps.{list_entry, TermFound, DecodedList}
 use Rattle.read_terms.proofs.Finding.{nameless, tally_ok, tally_refused}
 use Rattle.read_terms.proofs.Longer.{decoded_walked, read_many, read_counts}
 use Rattle.segment.specs.declared.replies.DocFreq.TheVariants as frequency
-use Rattle.leb128.specs.Forms.{long_forms}
-use Rattle.calls.specs.Forms.{term_long_forms}
 use Rattle.calls.specs.Reads.{df, term_list}
 use Rattle.calls.specs.Replies.{df_answer}
 
@@ -99,17 +97,12 @@ module _ (bytes name : List ℕ) where
             rw ((passed_ok (well_named name) fine).1, opens.1, is.2 opens.0 opens.2, opens.2.documents)
             (nameless opens.0.documents name bytes t)
 
-        -- its long forms
-        forms_found : term_long_forms bytes name ≡ long_forms (bytes_of_list bytes t)
-        unfolding term_long_forms
-        forms_found = rw (opens.1, is.2 opens.0 opens.2)
-
         module _ {r : Tally}
             (told : r ≡ tallied (decode (held_documents l.documents none (cut bytes l).metadata) (list_entry bytes t))) where
           pub list_refused : {x : Refusal} → r ≡ tally.Refused x → term_list bytes name ≡ refuse x
           list_refused e = list_is ∙ tally_refused total_positions _ (sym e ∙ told)
 
-          pub list_decoded : {n : ℕ} → r ≡ tally.Positions n → DecodedList bytes name t.start t.end t.df n
+          pub list_decoded : {n : ℕ} → r ≡ tally.Positions n → DecodedList bytes name t.start t.df n
           list_decoded e =
               let (ps, ok_is, total) = tally_ok total_positions _ (sym e ∙ told) in
               let walk = decoded_walked bytes t _ ok_is in
@@ -120,5 +113,4 @@ module _ (bytes name : List ℕ) where
                 counts = read_counts walk;
                 count = read_many walk;
                 total = total;
-                forms = forms_found;
               }

@@ -1,15 +1,16 @@
 -- What is read at the front of bytes does not depend on what follows: a list decoded from its own bytes is walked the same in the segment.
 -- Assumes nothing.
 use mathlib.Core.Path.{◌≡◌, refl, sym, ap, ◌∙◌}
+use mathlib.Core.Bool.{Bool, true, false, cond, ◌&&◌}
 use mathlib.Core.List.{List, [], ◌∷◌, ◌++◌, map}
 use mathlib.Core.Option.{Option, none, some}
-use Prim.Native.Nat.{ℕ, zero, suc, ◌-◌}
+use Prim.Native.Nat.{ℕ, zero, suc, ◌-◌, ◌^◌}
 use native.Mathlib.Omega.{arith}
-use lib.Dec.{leb, eqb}
+use lib.Dec.{ltb, leb, eqb}
 use lib.ListN.{length, drop, length-map, take-append-drop}
 use lib.Seq.{drop-append-le}
 use Rattle.crc32.specs.Crc32.{crc32_of}
-use Rattle.leb128.specs.Leb128.{Leb, uleb128, limited, stored}
+use Rattle.leb128.specs.Leb128.{Leb, below, uleb128, limited, stored}
 use Rattle.segment.specs.Refusals.{postings}
 use Rattle.segment.specs.Results.{Result, ok, refuse}
 use Rattle.segment.specs.Records.{Document, Posting, Read, number}
@@ -18,7 +19,7 @@ use Rattle.read_cursors.specs.Held.{skipped, PostingAt, on_value, on_posting, va
 use Rattle.read_cursors.specs.Held.{positions_there, posting_of, Full, AllFull}
 use Rattle.segment.proofs.Binds.{ok_same, bind_gives}
 use Rattle.segment.proofs.Accepted.{check_gives}
-use Rattle.leb128.proofs.Fronts.{size_fits, uleb_longer, limited_is}
+use Rattle.read_cursors.proofs.Gaps.{size_fits}
 use Rattle.read_cursors.proofs.ValueReads.{NumberRead, number_read, number_any, ValueRead, value_read, value_any, value_skipped}
 use Rattle.read_cursors.proofs.PostingReads.{PostingsRead, all_postings_read}
 use Rattle.read_terms.specs.declared.find.TermList.{TermList}
@@ -31,11 +32,31 @@ followed b x = record { got = x.got; rest = x.rest ++ b }
 abbrev pub spot_before : List ℕ → PostingAt → PostingAt
 spot_before b s = record { doc = s.doc; count = s.count; bytes = s.bytes ++ b }
 
+limited_is : (o : Option Leb) {r : Leb} → limited o ≡ some r → o ≡ some r
+limited_is none e = e
+limited_is (some q) e = tested (leb q.size 5 && ltb q.value (2 ^ 32)) e
+  where
+    tested : (t : Bool) {r : Leb} → cond t (some q) none ≡ some r → some q ≡ some r
+    tested true e = e
+    tested false e = let z : ◌≡◌ {A = ℕ} 0 1 = cc in absurd (omega arith)
+
 module _ (b : List ℕ) where
+  byte_longer : (x : ℕ) (t : Bool) (o p : Option Leb) {r : Leb} → ((q : Leb) → o ≡ some q → p ≡ some q)
+      → cond t (some (record { value = x; size = 1 })) (below x o) ≡ some r
+      → cond t (some (record { value = x; size = 1 })) (below x p) ≡ some r
+  byte_longer x true o p ih e = e
+  byte_longer x false none p ih e = let z : ◌≡◌ {A = ℕ} 0 1 = cc in absurd (omega arith)
+  byte_longer x false (some q) p ih e = rw (ih q refl) e
+
+  uleb_longer : (a : List ℕ) {r : Leb} → uleb128 a ≡ some r → uleb128 (a ++ b) ≡ some r
+  unfolding uleb128
+  uleb_longer [] e = let z : ◌≡◌ {A = ℕ} 0 1 = cc in absurd (omega arith)
+  uleb_longer (x ∷ a) e = byte_longer x (ltb x 128) (uleb128 a) (uleb128 (a ++ b)) (λ q f. uleb_longer a f) e
+
   pub stored_longer : (a : List ℕ) {r : Leb} → stored a ≡ some r → stored (a ++ b) ≡ some r
   stored_longer a e =
       let is = limited_is (uleb128 a) e in
-      ap limited (uleb_longer b a is ∙ sym is) ∙ e
+      ap limited (uleb_longer a is ∙ sym is) ∙ e
 
   number_longer : {a : List ℕ} {x : Read ℕ} → NumberRead a x → NumberRead (a ++ b) (followed b x)
   number_longer {a} r =

@@ -14,9 +14,7 @@ use Rattle.segment.specs.Postings.{total_positions}
 use Rattle.read_cursors.specs.Held.{held_postings, posting_of}
 use Rattle.read_terms.specs.declared.terms.Decoding.{Decoding}
 use Rattle.read_terms.specs.declared.terms.Decoding.TheVariants as decoding
-use Rattle.calls.specs.Forms.{term_long_forms}
 use Rattle.calls.specs.Reads.{term_list}
-use Rattle.leb128.specs.Forms.{long_forms}
 
 pub record ListInside (bytes : List ℕ) (l : TermList) : Type 0 where
   pub in_order : l.start ≤ l.end
@@ -63,17 +61,16 @@ TermFound bytes l name found.Absent = (s : Segment) → IsOpen bytes l s → ent
 
 -- What a term's decoded list means.
 
--- a decoded list by offset: a cursor from there walks the postings that the definition decodes, and up to its end are its long forms
-pub record DecodedList (bytes : List ℕ) (name : List ℕ) (start end df positions : ℕ) : Type 0 where
+-- a decoded list by offset: a cursor from there walks the postings that the definition decodes
+pub record DecodedList (bytes : List ℕ) (name : List ℕ) (start df positions : ℕ) : Type 0 where
   pub postings : List Posting
   pub decoded : term_list bytes name ≡ ok postings
   pub walked : map posting_of (held_postings df none (drop start bytes)) ≡ postings
   pub counts : map (λ s. s.count) (held_postings df none (drop start bytes)) ≡ map (λ p. length p.positions) postings
   pub count : length postings ≡ df
   pub total : total_positions postings ≡ positions
-  pub forms : term_long_forms bytes name ≡ long_forms (between start end bytes)
 
 abbrev pub Decodes : (bytes name : List ℕ) → Decoding → Type 0
-Decodes bytes name (decoding.List d) = DecodedList bytes name d.start d.end d.df d.positions
+Decodes bytes name (decoding.List d) = DecodedList bytes name d.start d.df d.positions
 Decodes bytes name decoding.Absent = term_list bytes name ≡ ok []
 Decodes bytes name (decoding.Refused x) = term_list bytes name ≡ refuse x

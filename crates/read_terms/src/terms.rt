@@ -50,12 +50,11 @@ pub fn df(bytes: &[u8], name: &[u8]) -> DocFreq
     }
 }
 
-// A term's list, decoded: where it stands, how many postings and positions it has. It was checked from its own bytes; cursors read it
-// from its start in the whole segment, so that one loop can hold cursors of many lists.
+// A term's list, decoded: its start, how many postings and positions it has. It was checked from its own bytes; cursors read it from
+// its start in the whole segment, so that one loop can hold cursors of many lists.
 #[derive(Drop)]
 pub struct DecodedList {
     pub start: usize,
-    pub end: usize,
     pub df: u32,
     pub positions: usize,
 }
@@ -89,7 +88,6 @@ pub fn decode_term(bytes: &[u8], name: &[u8]) -> Decoding
     match decode_postings(bytes, at, list) {
         Tally::Positions(total) => Decoding::List(DecodedList {
             start: list.start,
-            end: list.end,
             df: list.df,
             positions: total,
         }),

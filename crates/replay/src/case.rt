@@ -23,14 +23,9 @@ pub fn argument_of(case: &[u8]) -> u32 {
     number_at(case, 8)
 }
 
-// How many long forms the call must count: 0 but for open and term_postings.
-fn long_forms_of(case: &[u8]) -> u32 {
-    number_at(case, 4) / 65536
-}
-
-// The reply that the call must have; the fourth number is 0.
+// The reply that the call must have; third and fourth are 0.
 pub fn reply_of(case: &[u8]) -> Reply {
-    reply_at(case, 12, long_forms_of(case) as u64, 0)
+    reply_at(case, 12, 0, 0)
 }
 
 // The parts of the data, each by the place of its length in the head. The first four are bytes, the others numbers. OUT, FIRST, SECOND and

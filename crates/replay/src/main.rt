@@ -1,5 +1,5 @@
 // Replays a stored list of the original Rust's answers against this library, through the C interface: all seven numbers of each reply, of
-// which the last is 0 and the one before it a model's, and every place of every lent buffer. The list is data/cases, made by `oracle/run PATH --sample FILE`;
+// which the last two are 0, and every place of every lent buffer. The list is data/cases, made by `oracle/run PATH --sample FILE`;
 // oracle/README.md has its format. The totals that the program must write stand in the file stdout: totals.py counts them from the list,
 // and no run does. Over what replay_list has, read in this order:
 //   case     the fields of a case, and where the parts of its data lie

@@ -140,13 +140,6 @@ header_says s few_documents few_terms h = record {
   lists_sum = fixed_back 4 (crc32_of s.lists) (crc_lt s.lists);
 }
 
-pub cuts : (s : Sections) → s.documents < 2 ^ 32 → s.terms < 2 ^ 32
-    → 72 + length s.directory + length s.names + length s.metadata + length s.lists < 2 ^ 64
-    → sections (behind_header s) ≡ ok s
-cuts s few_documents few_terms h =
-    sections_back (behind_header s) s (header_says s few_documents few_terms h)
-    (sections_placed (header_bytes s.documents s.terms s.directory s.names s.metadata s.lists) s refl h)
-
 pub opens : (s : Sections) → s.documents < 2 ^ 32 → s.terms < 2 ^ 32
     → 72 + length s.directory + length s.names + length s.metadata + length s.lists < 2 ^ 64
     → (documents : List Document) (entries : List Entry) → metadata s.documents s.metadata ≡ ok documents

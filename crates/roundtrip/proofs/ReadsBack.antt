@@ -4,13 +4,12 @@ use mathlib.Core.Path.{◌≡◌, sym, ap, ◌∙◌, subst}
 use mathlib.Core.List.{List, [], ◌∷◌, map}
 use mathlib.Core.Logic.{inl, inr}
 use mathlib.Core.Option.{none}
-use Prim.Native.Nat.{ℕ, suc, ◌+◌, ◌^◌, ◌≤◌, ◌<◌}
+use Prim.Native.Nat.{ℕ, suc, ◌^◌, ◌≤◌, ◌<◌}
 use native.Mathlib.Omega.{arith}
 use lib.ListN.{length, length-map}
 use Rattle.segment.specs.Results.{ok}
 use Rattle.segment.specs.Records.{Document, Posting, Term}
-use Rattle.segment.specs.Metadata.{metadata}
-use Rattle.segment.specs.Opening.{Sections, sections, open_segment}
+use Rattle.segment.specs.Opening.{open_segment}
 use Rattle.calls.specs.Given.{Lists, given, laid_flat}
 use Rattle.common.specs.Lists.{joined}
 use Rattle.segment.specs.Written.{segment_bytes, directory_bytes, name_bytes, metadata_bytes, lists_bytes}
@@ -27,7 +26,7 @@ use Rattle.calls.proofs.Lengths.{metadata_size, lists_small, directory_length}
 use Rattle.roundtrip.proofs.MetadataBack.{NumbersFit, metadata_back}
 use Rattle.roundtrip.proofs.PostingsBack.{Few, entry_for, lists_back}
 use Rattle.roundtrip.proofs.DirectoryBack.{directory_back}
-use Rattle.roundtrip.proofs.OpeningBack.{cuts, opens}
+use Rattle.roundtrip.proofs.OpeningBack.{opens}
 
 -- a bound of every place bounds every member
 pub member_below : (n : ℕ) (xs : List ℕ) → Below n xs → (x : ℕ) → x ∈ xs → x < n
@@ -99,36 +98,24 @@ module _ (l : Lists) (typed : Typed l) (n : ListsFine l) where
 
   -- ---- opened, and decoded
 
-  abbrev parts : Sections
-  parts = record {
-    documents = length ds;
-    terms = length ts;
-    directory = directory_bytes 0 0 ts;
-    names = name_bytes ts;
-    metadata = metadata_bytes none ds;
-    lists = lists_bytes ts;
-  }
-
-  few_documents : length ds < 2 ^ 32
-  few_documents = omega (arith, taken_count (λ d. d.id) ds l.ids ids_are, n.small.ids)
-
-  few_terms : length ts ≤ 16777216
-  few_terms = omega (arith, taken_count (λ t. length t.postings) ts l.posting_counts posting_counts_are, n.small.posting_counts)
-
-  short : 72 + length parts.directory + length parts.names + length parts.metadata + length parts.lists < 2 ^ 64
-  short = omega (arith, few_terms, directory_length ts 0 0, short_names, short_metadata, short_lists)
-
-  pub cut : sections (segment_bytes (given l)) ≡ ok parts
-  unfolding segment_bytes
-  cut = cuts parts few_documents (omega (arith, few_terms)) short
-
-  pub documents_read : metadata (length ds) (metadata_bytes none ds) ≡ ok ds
-  documents_read = metadata_back ds n.documents_rise numbers_fit
-
   pub opened : open_segment (segment_bytes (given l)) ≡ ok (record { documents = ds; entries = map entry_for ts })
   unfolding segment_bytes
   opened =
-      opens parts few_documents (omega (arith, few_terms)) short ds (map entry_for ts) documents_read
+      let few_documents = taken_count (λ d. d.id) ds l.ids ids_are in
+      let few_terms = taken_count (λ t. length t.postings) ts l.posting_counts posting_counts_are in
+      opens (record {
+        documents = length ds;
+        terms = length ts;
+        directory = directory_bytes 0 0 ts;
+        names = name_bytes ts;
+        metadata = metadata_bytes none ds;
+        lists = lists_bytes ts;
+      })
+      (omega (arith, few_documents, n.small.ids))
+      (omega (arith, few_terms, n.small.posting_counts))
+      (omega (arith, few_terms, n.small.posting_counts, directory_length ts 0 0, short_names, short_metadata, short_lists))
+      ds (map entry_for ts)
+      (metadata_back ds n.documents_rise numbers_fit)
       (directory_back ds ts n.names_rise n.each few_postings (omega (arith, short_names)) (omega (arith, short_lists)))
 
   decoded : decode_segment (segment_bytes (given l)) ≡ ok (given l)

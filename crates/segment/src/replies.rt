@@ -1,12 +1,11 @@
 // What the calls of documents 01 and 02 answer, each with its refusal. A call that fills lent buffers answers how many elements it stored.
 use crate::refusal::Refusal;
 
-// How many documents and terms an open segment has, and how many numbers of its metadata stand in a long form (`open`).
+// How many documents and terms an open segment has (`open`).
 #[derive(Drop)]
 pub struct Counts {
     pub documents: u32,
     pub terms: u32,
-    pub long_forms: usize,
 }
 
 #[derive(Drop)]
@@ -38,12 +37,11 @@ pub enum DocFreq {
     Refused(Refusal),
 }
 
-// How many postings and how many positions a term has, and how many numbers of its list stand in a long form (`term_postings`).
+// How many postings and how many positions a term has (`term_postings`).
 #[derive(Drop)]
 pub struct Totals {
     pub postings: usize,
     pub positions: usize,
-    pub long_forms: usize,
 }
 
 #[derive(Drop)]

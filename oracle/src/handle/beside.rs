@@ -36,11 +36,6 @@ impl Handles {
         }
     }
 
-    /// The levels of both.
-    pub fn levels(&self) -> [u32; 2] {
-        self.both.map(|handle| handle.level)
-    }
-
     /// Counts a call that was made with both handles.
     pub fn count(&mut self, case: &Case, told: Result<&Answer, Refused>) {
         if takes(case.call) {

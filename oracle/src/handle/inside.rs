@@ -2,7 +2,7 @@
 
 use super::call::{ask, check, open_once, Handle};
 use super::pages::Pages;
-use crate::case::{Call, Case, Kept, ENDS};
+use crate::case::{Case, Kept, ENDS};
 use crate::lent::{Buffers, Place};
 use crate::library;
 use crate::reply::Reply;
@@ -114,10 +114,8 @@ impl Inside {
             return (plain != reply || !same).then(|| format!("the segment's own handle, but without it: {plain:?}"));
         }
         let lengths = [reply.first, reply.first, reply.second];
-        // what it counts with a handle of other bytes is not said
-        let counted = if case.call == Call::TermPostings { reply.third } else { 0 };
         let numbers_fit = match reply.kind {
-            0 => reply == Reply { third: counted, ..Reply::accepted(reply.first, reply.second) },
+            0 => reply.which == 0 && reply.index == 0 && reply.third == 0 && reply.fourth == 0,
             _ => reply == Reply { first: 0, second: 0, third: 0, fourth: 0, ..reply } && reply.kind <= 13,
         };
         if !numbers_fit {

@@ -69,44 +69,6 @@ pub fn repaired(mut bytes: Vec<u8>, at: usize, over: &[u8]) -> Vec<u8> {
     bytes
 }
 
-/// A segment by its bytes: how many documents, their metadata, and for each term name, df and list. All checksums are right.
-pub fn assembled(documents: u32, metadata: &[u8], terms: &[(&str, u32, &[u8])]) -> Vec<u8> {
-    let (mut directory, mut names, mut lists) = (Vec::new(), Vec::new(), Vec::new());
-    for &(name, df, list) in terms {
-        directory.extend((names.len() as u32).to_le_bytes());
-        directory.extend((name.len() as u32).to_le_bytes());
-        directory.extend((lists.len() as u64).to_le_bytes());
-        directory.extend((list.len() as u64).to_le_bytes());
-        directory.extend(df.to_le_bytes());
-        directory.extend([0; 4]);
-        names.extend(name.as_bytes());
-        lists.extend(list);
-    }
-    let mut bytes = b"PSTP0001\x02\0\0\0\0\0\0\0".to_vec();
-    bytes.extend(documents.to_le_bytes());
-    bytes.extend((terms.len() as u32).to_le_bytes());
-    for len in [directory.len(), names.len(), metadata.len(), lists.len()] {
-        bytes.extend((len as u64).to_le_bytes());
-    }
-    bytes.extend([0; 16]);
-    repaired(
-        [&bytes, &directory, &names, metadata, &lists].concat(),
-        0,
-        &[],
-    )
-}
-
-/// A stored number, unsigned LEB128: in so many bytes, or in as few as its value needs where that is more.
-pub fn stored(mut value: u32, bytes: usize) -> Vec<u8> {
-    let mut out = Vec::new();
-    while value >= 128 || out.len() + 1 < bytes {
-        out.push((value % 128) as u8 + 128);
-        value /= 128;
-    }
-    out.push(value as u8);
-    out
-}
-
 /// Marsaglia's xorshift: the same numbers in each run.
 pub struct Random(pub u64);
 

@@ -7,14 +7,14 @@ use Rattle.c_reply.proofs.reply.of_opened.Tie as tie
 enum-known-a : tie.Need-enum-known-a
 enum-known-a c = search rules
 
-cast-accept-four : tie.Need-overflow-cast-accept-four
-cast-accept-four c = search rules
+cast-accept : tie.Need-overflow-cast-accept
+cast-accept c = search rules
 
-cast-accept-four-2 : tie.Need-overflow-cast-accept-four-2
-cast-accept-four-2 c = search rules
+cast-accept-2 : tie.Need-overflow-cast-accept-2
+cast-accept-2 c = search rules
 
-accept-four-requires : tie.Need-accept-four-requires
-accept-four-requires c κs = search rules
+accept-requires : tie.Need-accept-requires
+accept-requires c κs = search rules
 
 enum-known-a-2 : tie.Need-enum-known-a-2
 enum-known-a-2 c = search rules
@@ -23,7 +23,7 @@ refuse-requires : tie.Need-refuse-requires
 refuse-requires c κs = search rules
 
 returns : tie.Need-returns
-returns c = c.accept-four.ensures ∙ sym (ap opened_reply c.before.before.before.before.a.given.1)
+returns c = c.accept.ensures ∙ sym (ap opened_reply c.before.before.before.before.a.given.1)
 
 returns-2 : tie.Need-returns-2
 returns-2 c = c.refuse.ensures ∙ sym (ap opened_reply c.before.before.a2.given.1)
@@ -33,9 +33,9 @@ of-opened-spec =
     tie.close
     (tie.spec
     enum-known-a
-    cast-accept-four
-    cast-accept-four-2
-    accept-four-requires
+    cast-accept
+    cast-accept-2
+    accept-requires
     enum-known-a-2
     refuse-requires
     returns

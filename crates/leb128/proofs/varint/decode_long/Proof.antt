@@ -9,7 +9,6 @@ use lib.ListN.{length, drop, get_or}
 use borrow.Author.Rules.{rules}
 use Rattle.leb128.specs.Leb128.{Leb, below, uleb128}
 use Rattle.leb128.proofs.Numbers.{more, last, out, refused, value, fifth, four_lt, four_eq, five_lt, five_eq}
-use Rattle.leb128.proofs.Marks.{three_mark, four_mark, five_mark}
 use Rattle.leb128.proofs.varint.decode_long.Statement.{statement}
 use Rattle.leb128.proofs.varint.decode_long.Tie as tie
 
@@ -87,7 +86,6 @@ returns-2 c =
     ∙ value (place p) _ _ _ _ _
     (ap (whole p) (last (bytes p) (place p + 2) (omega arith) (omega arith)))
     (omega arith) (omega arith) (omega arith) (omega arith)
-    (three_mark p.args.b0 p.args.b1 (byte2 p) c.before.before.byte.ensures (omega arith))
 
 returns-3 : tie.Need-returns-3
 returns-3 c =
@@ -124,7 +122,6 @@ returns-4 c =
     (four_lt p.args.b0 p.args.b1 (byte2 p) (byte3 p) (omega arith))
     (four_eq p.args.b0 p.args.b1 (byte2 p) (byte3 p) b.before.byte.ensures c.before.before.byte2.ensures (omega arith))
     (omega arith)
-    (four_mark p.args.b0 p.args.b1 (byte2 p) (byte3 p) c.before.before.byte2.ensures (omega arith))
 
 returns-5 : tie.Need-returns-5
 returns-5 c =
@@ -171,7 +168,6 @@ returns-7 c =
     b.before.before.before.before.before.byte.ensures b.before.byte2.ensures c.before.before.byte3.ensures
     (omega arith))
     (omega arith)
-    (five_mark p.args.b0 p.args.b1 (byte2 p) (byte3 p) (byte4 p) c.before.before.byte3.ensures)
 
 pub decode-long-spec : {M : Type 1} → statement M
 decode-long-spec =

@@ -115,9 +115,6 @@ fill-postings-requires c κs =
     d.if2.false n.before.if3.false n.count-positions.ensures
     e.if4.false
 
-long-forms-between-requires : tie.Need-long-forms-between-requires
-long-forms-between-requires c κs = search rules
-
 same-length-4 : tie.Need-same-length-4
 same-length-4 c = search rules
 
@@ -129,7 +126,7 @@ same-length-6 c = search rules
 
 returns-7 : tie.Need-returns-7
 returns-7 c =
-    let f = c.before.before.before.before.before.before.before in
+    let f = c.before.before.before.before.before.before in
     let e = f.before.before.before.before in
     let n = e.before in
     let d = n.before.before in
@@ -137,7 +134,6 @@ returns-7 c =
     postings_listed _ _ _ _ _ _ (used (asked k)) _ (listed k) d.before.long.ensures d.if2.false n.before.if3.false
     n.count-positions.ensures
     e.if4.false
-    c.long-forms-between.ensures
     f.fill-postings.ensures
 
 pub term-postings-checked-spec : {M : Type 1} → statement M
@@ -165,7 +161,6 @@ term-postings-checked-spec =
     no-room-requires-3
     returns-6
     fill-postings-requires
-    long-forms-between-requires
     same-length-4
     same-length-5
     same-length-6

@@ -14,7 +14,7 @@ abbrev list : tie.After-known-told → DecodedList
 list k = k.before.list.given.0.0
 
 decoded : (k : tie.After-known-told)
-    → DecodedList (entry k).args.bytes.now (entry k).args.name.now (list k).start (list k).end (list k).df (list k).positions
+    → DecodedList (entry k).args.bytes.now (entry k).args.name.now (list k).start (list k).df (list k).positions
 decoded k = rw k.before.list.given.1 at k.before.before.before.decode-term.ensures
 
 abbrev asked : tie.After-seek → tie.After-known-told

@@ -16,7 +16,7 @@ abbrev list : tie.After-known-told → DecodedList
 list k = k.before.list.given.0.0
 
 decoded : (k : tie.After-known-told)
-    → DecodedList (entry k).args.bytes.now (entry k).args.name.now (list k).start (list k).end (list k).df (list k).positions
+    → DecodedList (entry k).args.bytes.now (entry k).args.name.now (list k).start (list k).df (list k).positions
 decoded k = rw k.before.list.given.1 at k.before.before.before.decode-term.ensures
 
 decode-term-requires : tie.Need-decode-term-requires
@@ -79,9 +79,6 @@ fill-postings-requires c κs =
       omega (arith, positions_many (decoded d.before.before), e.if3.false),
     )
 
-long-forms-between-requires : tie.Need-long-forms-between-requires
-long-forms-between-requires c κs = search rules
-
 same_length : tie.Need-same-length
 same_length c = search rules
 
@@ -93,11 +90,11 @@ same-length-3 c = search rules
 
 returns-6 : tie.Need-returns-6
 returns-6 c =
-    let f = c.before.before.before.before.before.before.before in
+    let f = c.before.before.before.before.before.before in
     let e = f.before.before.before.before in
     let d = e.before.before in
     postings_filled _ _ _ _ _ (decoded d.before.before) d.before.long.ensures d.if1.false e.before.if2.false e.if3.false
-    c.long-forms-between.ensures f.fill-postings.ensures
+    f.fill-postings.ensures
 
 pub term-postings-spec : {M : Type 1} → statement M
 term-postings-spec =
@@ -117,7 +114,6 @@ term-postings-spec =
     no-room-requires-3
     returns-5
     fill-postings-requires
-    long-forms-between-requires
     same_length
     same-length-2
     same-length-3

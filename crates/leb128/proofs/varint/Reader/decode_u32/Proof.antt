@@ -9,7 +9,6 @@ use borrow.Author.Rules.{rules}
 use Rattle.leb128.specs.Leb128.{below, uleb128, limited}
 use Rattle.leb128.specs.Promise.{decoded}
 use Rattle.leb128.proofs.Numbers.{more, last, out, refused, value}
-use Rattle.leb128.proofs.Marks.{one_mark, two_mark}
 use Rattle.leb128.proofs.varint.Reader.decode_u32.Statement.{statement}
 use Rattle.leb128.proofs.varint.Reader.decode_u32.Tie as tie
 
@@ -66,7 +65,7 @@ returns-2 c =
     let p = c.before.before.before.before.before.before in
     c.found.ensures
     ∙ value (place p) _ _ _ _ _ (last (bytes p) (place p) (omega arith) (omega arith)) (omega arith) (omega arith) (omega arith)
-    (omega arith) (sym (one_mark (byte0 p) (omega arith)))
+    (omega arith)
 
 returns-3 : tie.Need-returns-3
 returns-3 c =
@@ -98,7 +97,7 @@ returns-4 c =
     c.found2.ensures
     ∙ value (place p) _ _ _ _ _
     (after1 b ∙ ap (below (byte0 p)) (last (bytes p) (place p + 1) (omega arith) (omega arith)))
-    (omega arith) (omega arith) (omega arith) (omega arith) (two_mark (byte0 p) (byte1 p) c.before.before.byte2.ensures (omega arith))
+    (omega arith) (omega arith) (omega arith) (omega arith)
 
 decode-long-requires : tie.Need-decode-long-requires
 decode-long-requires c κs = search rules
