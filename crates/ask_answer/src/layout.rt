@@ -1,6 +1,5 @@
 // A question put to bytes by a layout that fits them.
 ghost use Rattle.std.specs.Prelude.{◌≡◌, true, false, [], ◌∷◌, ◌≤◌, length};
-ghost use Rattle.common.specs.Slices.{was, left};
 ghost use Rattle.segment.specs.Texts.{ends_fit, names};
 ghost use Rattle.rules.specs.Kinds.{idle};
 ghost use Rattle.read_open.specs.Opened.{Fits};
@@ -37,7 +36,7 @@ pub fn answer_text(
 ) -> Counted
     requires { Fits bytes.now at × (ends_fit 0 ends.now (length text.now) ≡ true) × (length ends.now ≤ 128)
         × (idle rule (length ends.now) ≡ false) }
-    ensures { LayoutAnswered (was bytes) at sure rule (names 0 (was ends) (was text)) (was ids) result (left ids) }
+    ensures { LayoutAnswered bytes.now at sure rule (names 0 ends.now text.now) ids.old result ids.new }
 {
     let mut slot = [0usize; 128];
     let mut entry = [0usize; 128];
@@ -87,7 +86,7 @@ pub fn answer_two(
     ids: &mut [u32],
 ) -> Counted
     requires { Fits bytes.now at × (idle rule 2 ≡ false) }
-    ensures { LayoutAnswered (was bytes) at sure rule (was a ∷ was b ∷ []) (was ids) result (left ids) }
+    ensures { LayoutAnswered bytes.now at sure rule (a.now ∷ b.now ∷ []) ids.old result ids.new }
 {
     let mut slot = [0usize; 128];
     let mut entry = [0usize; 128];

@@ -5,6 +5,8 @@
 //   names    the lists decoded, or known to decode; the rarest leads
 //   layout   the names of a text, or two names
 // specs/Promise.antt says what an answer by a layout is.
+#![tactic(auto)]
+
 pub mod layout;
 pub mod lists;
 pub mod names;

@@ -1,6 +1,5 @@
 // The documents that the lists of the names' terms have in common and that meet the rule: counted, and their ids stored.
 ghost use Rattle.std.specs.Prelude.{◌≤◌, ◌<◌};
-ghost use Rattle.common.specs.Slices.{was, left};
 ghost use Rattle.ask_names.specs.Steps.{InSlots};
 ghost use Rattle.ask_answer.specs.Steps.{Long, Heads, held_list, ListsWalked, ListsAnswered};
 
@@ -23,7 +22,7 @@ pub fn open_lists(
     doc: &mut [u32; 128],
 )
     requires { (m ≤ 128) × Long at.old count.old remaining.old doc.old }
-    ensures { Heads (was bytes) m (was start) (was df) (left at) (left count) (left remaining) (left doc) }
+    ensures { Heads bytes.now m start.now df.now at.new count.new remaining.new doc.new }
 {
     let mut k: usize = 0;
     while k < m {
@@ -50,7 +49,7 @@ pub fn walk_lists(
     ids: &mut [u32],
 ) -> usize
     requires { InSlots n slot.now × (0 < m) × (m ≤ 128) }
-    ensures { ListsWalked (held_list (was bytes) (was start) (was df)) rule n (was slot) m (was wanted) (was ids) result (left ids) }
+    ensures { ListsWalked (held_list bytes.now start.now df.now) rule n slot.now m wanted.now ids.old result ids.new }
 {
     let mut at = [0usize; 128];
     let mut count = [0u32; 128];
@@ -96,8 +95,8 @@ pub fn answer_lists(
     ids: &mut [u32],
 ) -> Counted
     requires { InSlots n slot.now × (0 < m) × (m ≤ 128) }
-    ensures { ListsAnswered 0 (held_list (was bytes) (was start) (was df)) rule n (was slot) m (was wanted) (was ids) result
-        (left ids) }
+    ensures { ListsAnswered 0 (held_list bytes.now start.now df.now) rule n slot.now m wanted.now ids.old result
+        ids.new }
 {
     if ids.len() < long(df[0]) {
         let mut none: [u32; 0] = [0; 0];

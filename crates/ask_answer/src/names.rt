@@ -1,6 +1,5 @@
 // The answer for names that are resolved in lent tables: their lists decoded, the rarest put first, the documents found.
 ghost use Rattle.std.specs.Prelude.{◌≡◌, length};
-ghost use Rattle.common.specs.Slices.{was, left};
 ghost use Rattle.ask_names.specs.Tables.{tables, list_in, ListsInside};
 ghost use Rattle.ask_answer.specs.Steps.{ListsPassed, NamedBy, NamesAnswered};
 
@@ -29,7 +28,7 @@ pub fn check_lists(
 ) -> Checked
     requires { ListsInside bytes.now at different (list_in entry.now start.now end.now df.now checksum.now)
         × (length start.now ≡ 128) × (length df.now ≡ 128) }
-    ensures { ListsPassed (was bytes) at sure different (list_in (was entry) (was start) (was end) (was df) (was checksum)) result }
+    ensures { ListsPassed bytes.now at sure different (list_in entry.now start.now end.now df.now checksum.now) result }
 {
     if sure {
         return Checked::Passed;
@@ -59,8 +58,8 @@ pub fn answer_names(
 ) -> Counted
     requires { NamedBy bytes.now at named
         (tables slot.old entry.now start.old end.now df.old checksum.now wanted.old) }
-    ensures { NamesAnswered (was bytes) at sure rule named
-        (tables (was slot) (was entry) (was start) (was end) (was df) (was checksum) (was wanted)) (was ids) result (left ids) }
+    ensures { NamesAnswered bytes.now at sure rule named
+        (tables slot.old entry.now start.old end.now df.old checksum.now wanted.old) ids.old result ids.new }
 {
     let m = named.different;
     if let Checked::Refused(x) = check_lists(bytes, at, sure, m, entry, start, end, df, checksum) {

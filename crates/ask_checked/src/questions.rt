@@ -1,5 +1,4 @@
 // The three questions, asked with a handle. At level 1 the lists of the names are decoded for each question, at level 2 they are not.
-ghost use Rattle.common.specs.Slices.{was, left};
 ghost use Rattle.rules.specs.Kinds.{near_rule};
 ghost use Rattle.read_open.specs.Opened.{Fits};
 ghost use Rattle.ask_checked.specs.Promise.{TextChecked, TwoChecked};
@@ -25,7 +24,7 @@ fn ask_text(
     ids: &mut [u32],
 ) -> Counted
     requires { Fits bytes.now at }
-    ensures { TextAsked (was bytes) at sure rule (was text) (was ends) (was ids) result (left ids) }
+    ensures { TextAsked bytes.now at sure rule text.now ends.now ids.old result ids.new }
 {
     if let Checked::Refused(x) = check_question(text, ends) {
         return Counted::Refused(x);
@@ -45,7 +44,7 @@ fn search_text_checked(
     ends: &[u32],
     ids: &mut [u32],
 ) -> Counted
-    ensures { TextChecked (was bytes) h rule (was text) (was ends) (was ids) result (left ids) }
+    ensures { TextChecked bytes.now h rule text.now ends.now ids.old result ids.new }
 {
     if usable(bytes, h) {
         return ask_text(bytes, layout_of(h), h.level == 2, rule, text, ends, ids);
@@ -61,7 +60,7 @@ pub fn phrase_match_strs_checked(
     ends: &[u32],
     ids: &mut [u32],
 ) -> Counted
-    ensures { TextChecked (was bytes) h Rule.Phrase (was text) (was ends) (was ids) result (left ids) }
+    ensures { TextChecked bytes.now h Rule.Phrase text.now ends.now ids.old result ids.new }
 {
     search_text_checked(bytes, h, Rule::Phrase, text, ends, ids)
 }
@@ -76,7 +75,7 @@ pub fn near_match_terms_strs_checked(
     ordered: bool,
     ids: &mut [u32],
 ) -> Counted
-    ensures { TextChecked (was bytes) h (near_rule ordered window) (was text) (was ends) (was ids) result (left ids) }
+    ensures { TextChecked bytes.now h (near_rule ordered window) text.now ends.now ids.old result ids.new }
 {
     if ordered {
         return search_text_checked(bytes, h, Rule::Ordered(window), text, ends, ids);
@@ -95,7 +94,7 @@ fn ask_two(
     ids: &mut [u32],
 ) -> Counted
     requires { Fits bytes.now at }
-    ensures { TwoAsked (was bytes) at sure window (was a) (was b) (was ids) result (left ids) }
+    ensures { TwoAsked bytes.now at sure window a.now b.now ids.old result ids.new }
 {
     if let Checked::Refused(x) = check_two(a, b) {
         return Counted::Refused(x);
@@ -115,7 +114,7 @@ pub fn near_match_checked(
     window: u32,
     ids: &mut [u32],
 ) -> Counted
-    ensures { TwoChecked (was bytes) h window (was a) (was b) (was ids) result (left ids) }
+    ensures { TwoChecked bytes.now h window a.now b.now ids.old result ids.new }
 {
     if usable(bytes, h) {
         return ask_two(bytes, layout_of(h), h.level == 2, a, b, window, ids);

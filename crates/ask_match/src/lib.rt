@@ -10,6 +10,8 @@
 // goes back: each cursor reads its list once, so the time is linear in the bytes of the lists, however the positions lie. The phrase and
 // the unordered rule share one law of the leap (proofs/Leap.antt); a chain's start depends on its first name (proofs/Chains.antt). The
 // starts of a phrase are counted by one leap after the other, each from above the last start on (proofs/Counting.antt).
+#![tactic(auto)]
+
 pub mod ordered;
 pub mod pass;
 pub mod phrase;

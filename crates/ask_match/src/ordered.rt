@@ -1,6 +1,5 @@
 // The ordered near rule.
 ghost use Rattle.std.specs.Prelude.{◌≤◌};
-ghost use Rattle.common.specs.Slices.{was};
 ghost use Rattle.ask_match.specs.Steps.{positions_in, Begun, Chained, among};
 
 use crate::tables::seek_in;
@@ -23,7 +22,7 @@ pub fn ordered_here(
     pos: &mut [u32; 128],
 ) -> bool
     requires { n ≤ 128 }
-    ensures { Chained n window (among (was bytes) (positions_in (was at) (was remaining) (was pos))) result }
+    ensures { Chained n window (among bytes.now (positions_in at.old remaining.old pos.old)) result }
 {
     let mut start: u64 = 0;
     let mut target: u64 = 0;

@@ -1,5 +1,4 @@
 // A cursor advanced to a target, and how many positions it passed.
-ghost use Rattle.common.specs.Slices.{was};
 ghost use Rattle.ask_match.specs.Steps.{Passed};
 
 use common::widths::wide;
@@ -13,7 +12,7 @@ pub struct Moved {
 
 // Returns the cursor at its first position that is not below the target, and how many positions were passed.
 pub fn pass(bytes: &[u8], from: Positions, target: u64) -> Moved
-    ensures { Passed (was bytes) target from result }
+    ensures { Passed bytes.now target from result }
 {
     let mut c = from;
     let mut n: u32 = 0;

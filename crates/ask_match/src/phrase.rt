@@ -1,6 +1,5 @@
 // The phrase rule.
 ghost use Rattle.std.specs.Prelude.{◌≤◌};
-ghost use Rattle.common.specs.Slices.{was};
 ghost use Rattle.ask_match.specs.Steps.{positions_in, Found, stands};
 
 use crate::tables::seek_in;
@@ -15,7 +14,7 @@ pub fn phrase_here(
     pos: &mut [u32; 128],
 ) -> bool
     requires { n ≤ 128 }
-    ensures { Found n (stands (was bytes) (positions_in (was at) (was remaining) (was pos))) result }
+    ensures { Found n (stands bytes.now (positions_in at.old remaining.old pos.old)) result }
 {
     let mut start: u64 = 0;
     let mut i: usize = 0;

@@ -1,6 +1,5 @@
 // The starts of a phrase, counted.
 ghost use Rattle.std.specs.Prelude.{◌≤◌, ◌<◌};
-ghost use Rattle.common.specs.Slices.{was};
 ghost use Rattle.ask_match.specs.Steps.{positions_in, FoundSoOften, stands};
 
 use crate::tables::{cursor, seek_in};
@@ -16,7 +15,7 @@ pub fn starts_here(
     pos: &mut [u32; 128],
 ) -> u32
     requires { (0 < n) × (n ≤ 128) }
-    ensures { FoundSoOften n (stands (was bytes) (positions_in (was at) (was remaining) (was pos))) result }
+    ensures { FoundSoOften n (stands bytes.now (positions_in at.old remaining.old pos.old)) result }
 {
     let first = cursor(at, remaining, pos, 0);
     let mut count: u32 = 0;

@@ -1,6 +1,5 @@
 // Cursors in three lent tables of numbers: the one with index i is at[i], remaining[i], pos[i]. They are lent, so that no table is copied.
 ghost use Rattle.std.specs.Prelude.{◌≡◌};
-ghost use Rattle.common.specs.Slices.{was, left};
 ghost use Rattle.ask_match.specs.Steps.{positions_in, Inside, Changed, SoughtIn, PassedIn};
 
 use crate::pass::{Moved, pass};
@@ -10,7 +9,7 @@ use segment::ids::TokenPos;
 // The cursor with index i.
 pub fn cursor(at: &[usize], remaining: &[u32], pos: &[u32], i: usize) -> Positions
     requires { Inside i at.now remaining.now pos.now }
-    ensures { result ≡ positions_in (was at) (was remaining) (was pos) i }
+    ensures { result ≡ positions_in at.now remaining.now pos.now i }
 {
     Positions {
         at: at[i],
@@ -22,7 +21,7 @@ pub fn cursor(at: &[usize], remaining: &[u32], pos: &[u32], i: usize) -> Positio
 // Stores a cursor under index i.
 pub fn put_cursor(at: &mut [usize], remaining: &mut [u32], pos: &mut [u32], i: usize, c: Positions)
     requires { Inside i at.old remaining.old pos.old }
-    ensures { Changed i c (positions_in (was at) (was remaining) (was pos)) (positions_in (left at) (left remaining) (left pos)) }
+    ensures { Changed i c (positions_in at.old remaining.old pos.old) (positions_in at.new remaining.new pos.new) }
 {
     let here = c.pos;
     at[i] = c.at;
@@ -40,8 +39,8 @@ pub fn seek_in(
     target: u64,
 ) -> Positions
     requires { Inside i at.old remaining.old pos.old }
-    ensures { SoughtIn (was bytes) target i (positions_in (was at) (was remaining) (was pos))
-        (positions_in (left at) (left remaining) (left pos)) result }
+    ensures { SoughtIn bytes.now target i (positions_in at.old remaining.old pos.old)
+        (positions_in at.new remaining.new pos.new) result }
 {
     let c = cursor(at, remaining, pos, i);
     let d = c.seek(bytes, target);
@@ -59,8 +58,8 @@ pub fn pass_in(
     target: u64,
 ) -> Moved
     requires { Inside i at.old remaining.old pos.old }
-    ensures { PassedIn (was bytes) target i (positions_in (was at) (was remaining) (was pos))
-        (positions_in (left at) (left remaining) (left pos)) result }
+    ensures { PassedIn bytes.now target i (positions_in at.old remaining.old pos.old)
+        (positions_in at.new remaining.new pos.new) result }
 {
     let c = cursor(at, remaining, pos, i);
     let moved = pass(bytes, c, target);

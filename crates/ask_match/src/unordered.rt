@@ -1,6 +1,5 @@
 // The unordered near rule, with the two tables of document 01: how often each different name is named, and how often it is seen.
 ghost use Rattle.std.specs.Prelude.{◌+◌, ◌≤◌};
-ghost use Rattle.common.specs.Slices.{was, left};
 ghost use Rattle.ask_match.specs.Steps.{positions_in, WindowsFit, WindowsOpen, Found, shows};
 
 use crate::tables::pass_in;
@@ -18,8 +17,8 @@ fn open_windows(
     seen: &mut [u32],
 )
     requires { WindowsFit n at.now remaining.now pos.now first_at.old first_remaining.old first_pos.old seen.old }
-    ensures { WindowsOpen n (positions_in (was at) (was remaining) (was pos))
-        (positions_in (left first_at) (left first_remaining) (left first_pos)) (left seen) }
+    ensures { WindowsOpen n (positions_in at.now remaining.now pos.now)
+        (positions_in first_at.new first_remaining.new first_pos.new) seen.new }
 {
     let mut k: usize = 0;
     while k < n {
@@ -47,7 +46,7 @@ pub fn unordered_here(
     seen: &mut [u32; 128],
 ) -> bool
     requires { n ≤ 128 }
-    ensures { Found n (shows (was bytes) window (was wanted) (positions_in (was at) (was remaining) (was pos))) result }
+    ensures { Found n (shows bytes.now window wanted.now (positions_in at.old remaining.old pos.old)) result }
 {
     open_windows(
         n,

@@ -1,7 +1,6 @@
 // The rarest list leads: the walk over the documents goes from list 0, so the term with the fewest postings gets number 0. Every order of
 // the lists finds the same documents.
 ghost use Rattle.std.specs.Prelude.{◌≡◌, ◌≤◌, ◌<◌, length};
-ghost use Rattle.common.specs.Slices.{was, left};
 ghost use Rattle.ask_names.specs.Tables.{swap, Renamed, Led};
 
 // The number of a term that no other has fewer postings than.
@@ -36,7 +35,7 @@ fn swapped(b: usize, k: usize) -> usize
 // The names' numbers after terms 0 and b changed numbers.
 fn rename(n: usize, b: usize, slot: &mut [usize; 128])
     requires { (n ≤ 128) × (length slot.old ≡ 128) }
-    ensures { Renamed n b (was slot) (left slot) }
+    ensures { Renamed n b slot.old slot.new }
 {
     let mut i: usize = 0;
     while i < n {
@@ -56,7 +55,7 @@ pub fn lead_with_rarest(
 )
     requires { (n ≤ 128) × (0 < m) × (m ≤ 128) × (length slot.old ≡ 128) × (length start.old ≡ 128)
         × (length df.old ≡ 128) × (length wanted.old ≡ 128) }
-    ensures { Led n m (was slot) (was start) (was df) (was wanted) (left slot) (left start) (left df) (left wanted) }
+    ensures { Led n m slot.old start.old df.old wanted.old slot.new start.new df.new wanted.new }
 {
     let b = rarest(m, df);
     rename(n, b, slot);

@@ -5,6 +5,8 @@
 //   lead       the rarest list first
 // Crate calls defines a question's checks and what its names decode to (specs/Questions.antt); specs/Steps.antt here has what the names
 // resolve to, specs/Tables.antt how the tables hold it.
+#![tactic(auto)]
+
 pub mod lead;
 pub mod lists;
 pub mod question;

@@ -1,7 +1,6 @@
 // The names of a question resolved by a layout that fits the bytes, and the list of every different term decoded, in the order named.
 ghost use Rattle.read_open.specs.Opened.{Fits};
 ghost use Rattle.std.specs.Prelude.{◌≡◌, true, ◌≤◌, length};
-ghost use Rattle.common.specs.Slices.{was, left};
 ghost use Rattle.segment.specs.Texts.{ends_fit, names};
 ghost use Rattle.ask_names.specs.Tables.{tables, list_in, Empty, Resolved, ListsInside, lists_decoded};
 
@@ -28,8 +27,8 @@ pub fn resolve(
 ) -> Named
     requires { Fits bytes.now at × (ends_fit 0 ends.now (length text.now) ≡ true) × (length ends.now ≤ 128)
         × Empty (tables slot.old entry.old start.old end.old df.old checksum.old wanted.old) }
-    ensures { Resolved (was bytes) at (names 0 (was ends) (was text)) result
-        (tables (left slot) (left entry) (left start) (left end) (left df) (left checksum) (left wanted)) }
+    ensures { Resolved bytes.now at (names 0 ends.now text.now) result
+        (tables slot.new entry.new start.new end.new df.new checksum.new wanted.new) }
 {
     let mut named = Named {
         taken: 0,
@@ -60,7 +59,7 @@ pub fn decode_lists(
     checksum: &[u32; 128],
 ) -> Checked
     requires { ListsInside bytes.now at different (list_in entry.now start.now end.now df.now checksum.now) }
-    ensures { result ≡ lists_decoded (was bytes) at different (list_in (was entry) (was start) (was end) (was df) (was checksum)) }
+    ensures { result ≡ lists_decoded bytes.now at different (list_in entry.now start.now end.now df.now checksum.now) }
 {
     let mut k: usize = 0;
     while k < different {

@@ -1,6 +1,5 @@
 // A question's names: not too many or too large, the ends in shape, each name UTF-8.
 ghost use Rattle.std.specs.Prelude.{◌≡◌, true, length};
-ghost use Rattle.common.specs.Slices.{was};
 ghost use Rattle.segment.specs.Texts.{ends_fit, names};
 ghost use Rattle.segment.specs.Steps.{checked};
 ghost use Rattle.calls.specs.Questions.{check_names, check_question as question_checks, two_checks};
@@ -17,7 +16,7 @@ pub const NAMES: usize = 128;
 // Each name is UTF-8.
 fn check_texts(text: &[u8], ends: &[u32]) -> Checked
     requires { ends_fit 0 ends.now (length text.now) ≡ true }
-    ensures { result ≡ checked (check_names (names 0 (was ends) (was text))) }
+    ensures { result ≡ checked (check_names (names 0 ends.now text.now)) }
 {
     let mut from: usize = 0;
     let mut i: usize = 0;
@@ -34,7 +33,7 @@ fn check_texts(text: &[u8], ends: &[u32]) -> Checked
 
 // Kinds 12, 11 and 10.
 pub fn check_question(text: &[u8], ends: &[u32]) -> Checked
-    ensures { result ≡ checked (question_checks (was text) (was ends)) }
+    ensures { result ≡ checked (question_checks text.now ends.now) }
 {
     if LIMIT < text.len() || NAMES < ends.len() {
         return Checked::Refused(too_large());
@@ -47,7 +46,7 @@ pub fn check_question(text: &[u8], ends: &[u32]) -> Checked
 
 // Two names: kind 12 of both, then kind 10 of both. They come in two texts, so kind 11 cannot occur.
 pub fn check_two(a: &[u8], b: &[u8]) -> Checked
-    ensures { result ≡ checked (two_checks (was a) (was b)) }
+    ensures { result ≡ checked (two_checks a.now b.now) }
 {
     if LIMIT < a.len() || LIMIT < b.len() {
         return Checked::Refused(too_large());

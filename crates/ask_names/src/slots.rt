@@ -3,7 +3,6 @@
 // empty, but only after every other name's list was decoded: a malformed list is refused whatever names are beside it. What the names
 // resolve to stands in tables of numbers that the caller lends: nothing is copied from name to name.
 ghost use Rattle.std.specs.Prelude.{◌≡◌, ◌≤◌, ◌<◌};
-ghost use Rattle.common.specs.Slices.{was, left};
 ghost use Rattle.ask_names.specs.Steps.{slot_for};
 ghost use Rattle.ask_names.specs.Tables.{tables, list_in, Room, Taken};
 
@@ -22,7 +21,7 @@ pub struct Named {
 // The index of the term with this entry, or the number of terms where none has it.
 fn slot_of(entries: &[usize; 128], different: usize, entry: usize) -> usize
     requires { different ≤ 128 }
-    ensures { result ≡ slot_for different (was entries) entry }
+    ensures { result ≡ slot_for different entries.now entry }
 {
     let mut k: usize = 0;
     while k < different {
@@ -47,8 +46,8 @@ pub fn take_name(
     wanted: &mut [u32; 128],
 ) -> Named
     requires { Room named wanted.old }
-    ensures { Taken named (tables (was slot) (was entry) (was start) (was end) (was df) (was checksum) (was wanted)) found
-        result (tables (left slot) (left entry) (left start) (left end) (left df) (left checksum) (left wanted)) }
+    ensures { Taken named (tables slot.old entry.old start.old end.old df.old checksum.old wanted.old) found
+        result (tables slot.new entry.new start.new end.new df.new checksum.new wanted.new) }
 {
     let place = named.taken;
     let different = named.different;
@@ -94,7 +93,7 @@ pub fn list_at(
     checksum: &[u32; 128],
 ) -> TermList
     requires { k < 128 }
-    ensures { result ≡ list_in (was entry) (was start) (was end) (was df) (was checksum) k }
+    ensures { result ≡ list_in entry.now start.now end.now df.now checksum.now k }
 {
     TermList {
         entry: entry[k],

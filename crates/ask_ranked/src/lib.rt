@@ -4,6 +4,8 @@
 //   questions  the call
 // Crate calls defines what the call answers (specs/Ranked.antt, by the order of specs/Order.antt); specs/Promise.antt here says what it
 // leaves in the two lent buffers.
+#![tactic(auto)]
+
 pub mod lists;
 pub mod names;
 pub mod questions;

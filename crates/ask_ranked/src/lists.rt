@@ -1,6 +1,5 @@
 // The documents that the lists of a phrase's terms have in common and that meet it, each with its count: counted, stored, ranked.
 ghost use Rattle.std.specs.Prelude.{◌≤◌, ◌<◌};
-ghost use Rattle.common.specs.Slices.{was, left};
 ghost use Rattle.ask_names.specs.Steps.{InSlots};
 ghost use Rattle.ask_answer.specs.Steps.{held_list};
 ghost use Rattle.ask_ranked.specs.Steps.{FitsSome, ListsCounted, RoomChecked, ListsRanked};
@@ -27,8 +26,8 @@ fn walk_ranked(
     counts: &mut [u32],
 ) -> usize
     requires { InSlots n slot.now × (0 < n) × (0 < m) × (m ≤ 128) }
-    ensures { ListsCounted (held_list (was bytes) (was start) (was df)) n (was slot) m (was ids) (was counts) result (left ids)
-        (left counts) }
+    ensures { ListsCounted (held_list bytes.now start.now df.now) n slot.now m ids.old counts.old result ids.new
+        counts.new }
 {
     let mut at = [0usize; 128];
     let mut count = [0u32; 128];
@@ -72,7 +71,7 @@ fn check_room(
     count_room: usize,
 ) -> Checked
     requires { InSlots n slot.now × (0 < m) × (m ≤ 128) }
-    ensures { RoomChecked (held_list (was bytes) (was start) (was df)) n (was slot) m (was wanted) id_room count_room result }
+    ensures { RoomChecked (held_list bytes.now start.now df.now) n slot.now m wanted.now id_room count_room result }
 {
     let most = long(df[0]);
     if most <= id_room && most <= count_room {
@@ -114,8 +113,8 @@ pub fn rank_lists(
 ) -> Counted
     requires { InSlots n slot.now × (0 < m) × (m ≤ 128)
         × FitsSome (held_list bytes.now start.now df.now) n slot.now m wanted.now }
-    ensures { ListsRanked 0 (held_list (was bytes) (was start) (was df)) n (was slot) m (was wanted) (was ids) (was counts) result
-        (left ids) (left counts) }
+    ensures { ListsRanked 0 (held_list bytes.now start.now df.now) n slot.now m wanted.now ids.old counts.old result
+        ids.new counts.new }
 {
     if let Checked::Refused(x) = check_room(
         bytes,

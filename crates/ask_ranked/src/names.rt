@@ -1,5 +1,4 @@
 // The ranked answer for names that are resolved in lent tables: their lists decoded, the rarest put first, the documents found.
-ghost use Rattle.common.specs.Slices.{was, left};
 ghost use Rattle.ask_names.specs.Tables.{tables};
 ghost use Rattle.ask_answer.specs.Steps.{NamedBy};
 ghost use Rattle.ask_ranked.specs.Steps.{NamesRanked};
@@ -29,9 +28,9 @@ pub fn rank_names(
 ) -> Counted
     requires { NamedBy bytes.now at named
         (tables slot.old entry.now start.old end.now df.old checksum.now wanted.old) }
-    ensures { NamesRanked (was bytes) at named
-        (tables (was slot) (was entry) (was start) (was end) (was df) (was checksum) (was wanted)) (was ids) (was counts) result (left ids)
-        (left counts) }
+    ensures { NamesRanked bytes.now at named
+        (tables slot.old entry.now start.old end.now df.old checksum.now wanted.old) ids.old counts.old result ids.new
+        counts.new }
 {
     let m = named.different;
     if let Checked::Refused(x) = check_lists(bytes, at, false, m, entry, start, end, df, checksum) {

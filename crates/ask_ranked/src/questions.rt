@@ -1,6 +1,5 @@
 // The ranked search of a segment that is opened for it.
 ghost use Rattle.std.specs.Prelude.{◌≡◌, true, false, ◌≤◌, length};
-ghost use Rattle.common.specs.Slices.{was, left};
 ghost use Rattle.segment.specs.Texts.{ends_fit, names};
 ghost use Rattle.rules.specs.Kinds.{idle};
 ghost use Rattle.read_open.specs.Opened.{Fits};
@@ -28,7 +27,7 @@ fn rank_text(
 ) -> Counted
     requires { Fits bytes.now at × (ends_fit 0 ends.now (length text.now) ≡ true) × (length ends.now ≤ 128)
         × (idle Rule.Phrase (length ends.now) ≡ false) }
-    ensures { LayoutRanked (was bytes) at (names 0 (was ends) (was text)) (was ids) (was counts) result (left ids) (left counts) }
+    ensures { LayoutRanked bytes.now at (names 0 ends.now text.now) ids.old counts.old result ids.new counts.new }
 {
     let mut slot = [0usize; 128];
     let mut entry = [0usize; 128];
@@ -76,7 +75,7 @@ pub fn phrase_match_ranked(
     ids: &mut [u32],
     counts: &mut [u32],
 ) -> Counted
-    ensures { RankedAnswered (was bytes) (was text) (was ends) (was ids) (was counts) result (left ids) (left counts) }
+    ensures { RankedAnswered bytes.now text.now ends.now ids.old counts.old result ids.new counts.new }
 {
     if let Checked::Refused(x) = check_question(text, ends) {
         return Counted::Refused(x);

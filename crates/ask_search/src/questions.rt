@@ -1,5 +1,4 @@
 // The three questions, each asked of a segment that is opened for it.
-ghost use Rattle.common.specs.Slices.{was, left};
 ghost use Rattle.rules.specs.Kinds.{near_rule};
 ghost use Rattle.ask_search.specs.Promise.{TextAnswered, TwoAnswered};
 
@@ -13,7 +12,7 @@ use segment::replies::Counted;
 
 // Asks a segment for names in one text, by any of the rules.
 pub fn search_text(bytes: &[u8], rule: Rule, text: &[u8], ends: &[u32], ids: &mut [u32]) -> Counted
-    ensures { TextAnswered (was bytes) rule (was text) (was ends) (was ids) result (left ids) }
+    ensures { TextAnswered bytes.now rule text.now ends.now ids.old result ids.new }
 {
     if let Checked::Refused(x) = check_question(text, ends) {
         return Counted::Refused(x);
@@ -33,7 +32,7 @@ pub fn search_text(bytes: &[u8], rule: Rule, text: &[u8], ends: &[u32], ids: &mu
 // The documents that have the names at consecutive positions: how many, and their ids, rising; or the first refusal in document 01's
 // order. No names: none.
 pub fn phrase_match_strs(bytes: &[u8], text: &[u8], ends: &[u32], ids: &mut [u32]) -> Counted
-    ensures { TextAnswered (was bytes) Rule.Phrase (was text) (was ends) (was ids) result (left ids) }
+    ensures { TextAnswered bytes.now Rule.Phrase text.now ends.now ids.old result ids.new }
 {
     search_text(bytes, Rule::Phrase, text, ends, ids)
 }
@@ -48,7 +47,7 @@ pub fn near_match_terms_strs(
     ordered: bool,
     ids: &mut [u32],
 ) -> Counted
-    ensures { TextAnswered (was bytes) (near_rule ordered window) (was text) (was ends) (was ids) result (left ids) }
+    ensures { TextAnswered bytes.now (near_rule ordered window) text.now ends.now ids.old result ids.new }
 {
     if ordered {
         return search_text(bytes, Rule::Ordered(window), text, ends, ids);
@@ -59,7 +58,7 @@ pub fn near_match_terms_strs(
 // The documents that have two names within a window, in any order: how many, and their ids, rising; or the first refusal in document
 // 01's order. A window of 0: none.
 pub fn near_match(bytes: &[u8], a: &[u8], b: &[u8], window: u32, ids: &mut [u32]) -> Counted
-    ensures { TwoAnswered (was bytes) window (was a) (was b) (was ids) result (left ids) }
+    ensures { TwoAnswered bytes.now window a.now b.now ids.old result ids.new }
 {
     if let Checked::Refused(x) = check_two(a, b) {
         return Counted::Refused(x);

@@ -1,7 +1,6 @@
 // The rule in one document, whose postings the cursors are at, and the number of a phrase's starts there.
 ghost use Rattle.std.specs.Prelude.{◌≡◌, ◌≤◌, ◌<◌, drop};
 ghost use Rattle.std.proofs.Math.Option.{none};
-ghost use Rattle.common.specs.Slices.{was, left};
 ghost use Rattle.read_cursors.specs.Held.{held_positions};
 ghost use Rattle.read_cursors.specs.Steps.{positions_from};
 ghost use Rattle.ask_match.specs.Steps.{positions_in};
@@ -21,14 +20,14 @@ use segment::ids::DocId;
 // The term of cursor i: that of name i, or term i itself where each term has a cursor.
 fn term_of(slot: &[usize; 128], each: bool, i: usize) -> usize
     requires { i < 128 }
-    ensures { result ≡ cursor_term each (was slot) i }
+    ensures { result ≡ cursor_term each slot.now i }
 {
     if each { i } else { slot[i] }
 }
 
 // The cursor at the first of `count` positions from offset `at` on.
 fn first_position(bytes: &[u8], at: usize, count: u32) -> Positions
-    ensures { positions_from (was bytes) result ≡ held_positions count none (drop at (was bytes)) }
+    ensures { positions_from bytes.now result ≡ held_positions count none (drop at bytes.now) }
 {
     Positions::start(
         bytes,
@@ -55,8 +54,8 @@ fn open_cursors(
     to_pos: &mut [u32],
 )
     requires { Openable n (cursor_term each slot.now) to_at.old to_remaining.old to_pos.old }
-    ensures { CursorsOpened (was bytes) n (cursor_term each (was slot)) (postings_in (was at) (was count))
-        (positions_in (left to_at) (left to_remaining) (left to_pos)) }
+    ensures { CursorsOpened bytes.now n (cursor_term each slot.now) (postings_in at.now count.now)
+        (positions_in to_at.new to_remaining.new to_pos.new) }
 {
     let mut i: usize = 0;
     while i < n {
@@ -87,7 +86,7 @@ pub fn document_meets(
     seen: &mut [u32; 128],
 ) -> bool
     requires { InSlots n slot.now × (m ≤ 128) }
-    ensures { DocumentMet (was bytes) rule n (was slot) m (was wanted) (postings_in (was at) (was count)) result }
+    ensures { DocumentMet bytes.now rule n slot.now m wanted.now (postings_in at.now count.now) result }
 {
     match rule {
         Rule::Phrase => {
@@ -160,7 +159,7 @@ pub fn document_starts(
     last_pos: &mut [u32; 128],
 ) -> u32
     requires { InSlots n slot.now × (0 < n) }
-    ensures { DocumentCounted (was bytes) n (was slot) (postings_in (was at) (was count)) result }
+    ensures { DocumentCounted bytes.now n slot.now (postings_in at.now count.now) result }
 {
     open_cursors(
         bytes,

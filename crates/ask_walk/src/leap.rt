@@ -1,7 +1,6 @@
 // The leap to the next document that every list holds, as in one document to the next start: the least document that no list has ruled out
 // yet is brought to each list in turn; a list that is past it moves it on.
 ghost use Rattle.std.specs.Prelude.{◌≤◌, ◌<◌, ◌^◌};
-ghost use Rattle.common.specs.Slices.{was, left};
 ghost use Rattle.ask_walk.specs.Steps.{cursors_in, Leapt};
 
 use crate::tables::seek_list;
@@ -20,8 +19,8 @@ pub fn next_document(
     from: u64,
 ) -> u64
     requires { (0 < m) × (m ≤ 128) × (from ≤ 2 ^ 32) }
-    ensures { Leapt (was bytes) m from (cursors_in (was at) (was count) (was remaining) (was doc))
-        (cursors_in (left at) (left count) (left remaining) (left doc)) result }
+    ensures { Leapt bytes.now m from (cursors_in at.old count.old remaining.old doc.old)
+        (cursors_in at.new count.new remaining.new doc.new) result }
 {
     let mut next: u64 = from;
     let mut k: usize = 0;

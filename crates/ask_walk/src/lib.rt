@@ -4,6 +4,8 @@
 //   leap         the next document that all lists hold
 //   walk         the documents that all lists hold, and of these the ones that meet the rule
 //   walk_starts  those that have the phrase, and beside each how often
+#![tactic(auto)]
+
 pub mod document;
 pub mod leap;
 pub mod tables;

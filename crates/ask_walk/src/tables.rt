@@ -1,6 +1,5 @@
 // Cursors over lists in four lent tables of numbers: the one with index k is at[k], count[k], remaining[k], doc[k].
 ghost use Rattle.std.specs.Prelude.{◌≡◌};
-ghost use Rattle.common.specs.Slices.{was, left};
 ghost use Rattle.ask_match.specs.Steps.{Changed};
 ghost use Rattle.ask_walk.specs.Steps.{cursors_in, InTables, SoughtList};
 
@@ -10,7 +9,7 @@ use segment::ids::DocId;
 // The cursor with index k.
 fn list(at: &[usize], count: &[u32], remaining: &[u32], doc: &[u32], k: usize) -> Postings
     requires { InTables k at.now count.now remaining.now doc.now }
-    ensures { result ≡ cursors_in (was at) (was count) (was remaining) (was doc) k }
+    ensures { result ≡ cursors_in at.now count.now remaining.now doc.now k }
 {
     Postings {
         at: at[k],
@@ -30,8 +29,8 @@ fn put_list(
     c: Postings,
 )
     requires { InTables k at.old count.old remaining.old doc.old }
-    ensures { Changed k c (cursors_in (was at) (was count) (was remaining) (was doc))
-        (cursors_in (left at) (left count) (left remaining) (left doc)) }
+    ensures { Changed k c (cursors_in at.old count.old remaining.old doc.old)
+        (cursors_in at.new count.new remaining.new doc.new) }
 {
     let id = c.doc;
     at[k] = c.at;
@@ -51,8 +50,8 @@ pub fn seek_list(
     target: u64,
 ) -> Postings
     requires { InTables k at.old count.old remaining.old doc.old }
-    ensures { SoughtList (was bytes) target k (cursors_in (was at) (was count) (was remaining) (was doc))
-        (cursors_in (left at) (left count) (left remaining) (left doc)) result }
+    ensures { SoughtList bytes.now target k (cursors_in at.old count.old remaining.old doc.old)
+        (cursors_in at.new count.new remaining.new doc.new) result }
 {
     let c = list(at, count, remaining, doc, k);
     let here = c.seek(bytes, target);

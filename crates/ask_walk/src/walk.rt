@@ -1,6 +1,5 @@
 // The documents that every list holds, one leap after the other, and of these the ones that meet the rule.
 ghost use Rattle.std.specs.Prelude.{◌≤◌, ◌<◌, ◌≡◌, set};
-ghost use Rattle.common.specs.Slices.{was, left};
 ghost use Rattle.ask_names.specs.Steps.{InSlots};
 ghost use Rattle.ask_walk.specs.Steps.{cursors_in, DocumentsFound};
 
@@ -10,7 +9,7 @@ use rules::rule::Rule;
 
 // Stores a number at an index of the buffer, if the buffer is that long: a walk over an empty buffer only counts.
 pub fn put(buffer: &mut [u32], at: usize, number: u32)
-    ensures { left buffer ≡ set (was buffer) at number }
+    ensures { buffer.new ≡ set buffer.old at number }
 {
     if at < buffer.len() {
         buffer[at] = number;
@@ -33,8 +32,8 @@ pub fn walk(
     ids: &mut [u32],
 ) -> usize
     requires { InSlots n slot.now × (0 < m) × (m ≤ 128) }
-    ensures { DocumentsFound (was bytes) rule n (was slot) m (was wanted)
-        (cursors_in (was at) (was count) (was remaining) (was doc)) (was ids) result (left ids) }
+    ensures { DocumentsFound bytes.now rule n slot.now m wanted.now
+        (cursors_in at.old count.old remaining.old doc.old) ids.old result ids.new }
 {
     let mut last_at = [0usize; 128];
     let mut last_remaining = [0u32; 128];

@@ -1,7 +1,6 @@
 // The documents that every list holds, one leap after the other, and of these the ones that have the phrase, each with the number of its
 // starts.
 ghost use Rattle.std.specs.Prelude.{◌≤◌, ◌<◌};
-ghost use Rattle.common.specs.Slices.{was, left};
 ghost use Rattle.ask_names.specs.Steps.{InSlots};
 ghost use Rattle.ask_walk.specs.Steps.{cursors_in, DocumentsCounted};
 
@@ -25,8 +24,8 @@ pub fn walk_starts(
     counts: &mut [u32],
 ) -> usize
     requires { InSlots n slot.now × (0 < n) × (0 < m) × (m ≤ 128) }
-    ensures { DocumentsCounted (was bytes) n (was slot) m (cursors_in (was at) (was count) (was remaining) (was doc))
-        (was ids) (was counts) result (left ids) (left counts) }
+    ensures { DocumentsCounted bytes.now n slot.now m (cursors_in at.old count.old remaining.old doc.old)
+        ids.old counts.old result ids.new counts.new }
 {
     let mut last_at = [0usize; 128];
     let mut last_remaining = [0u32; 128];

@@ -1,5 +1,7 @@
 // Document 01's bars to try: written, listed, asked. The file stdout has what each line must say, written from document 01 and not
 // from a run. The marked cases are settled by computing the definitions as well (crate cases); here the program answers them.
+#![tactic(auto)]
+
 use ask_search::questions::{near_match_terms_strs, phrase_match_strs};
 use libc::STDOUT_FILENO;
 use read_open::open_segment::open;

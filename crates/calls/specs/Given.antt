@@ -3,9 +3,9 @@ use Rattle.std.specs.Prelude.{ℕ, ◌+◌, List, [], ◌∷◌, map, length}
 use Rattle.segment.specs.Records.{Posting, Term, Given}
 use Rattle.segment.specs.Metadata.{document}
 use Rattle.segment.specs.Texts.{names}
-use Rattle.std.specs.Borrow.{Bor}
+use Rattle.std.specs.Borrow.{Bor, MutBor}
 use denote.Triple.Both.{Both}
-use Rattle.common.specs.Slices.{was, left}
+use Rattle.common.specs.Slices.{was, held, left}
 use Rattle.common.specs.Lists.{paired, parts, joined}
 
 -- in the order in which the writer takes them
@@ -37,9 +37,14 @@ abbrev pub given_lists : {Y : Type 0}
     → (ids lengths text ends posting_counts posting_ids position_counts positions : Both (Bor (List ℕ)) Y) → Lists
 given_lists i l t e pc pi kc ps = lists (was i) (was l) (was t) (was e) (was pc) (was pi) (was kc) (was ps)
 
--- the eight as slices that a call was lent, afterwards
+-- the eight as slices that a call was lent to write in, before it
+abbrev pub held_lists : {Y : Type 0}
+    → (ids lengths text ends posting_counts posting_ids position_counts positions : Both (MutBor (List ℕ)) Y) → Lists
+held_lists i l t e pc pi kc ps = lists (held i) (held l) (held t) (held e) (held pc) (held pi) (held kc) (held ps)
+
+-- and afterwards
 abbrev pub left_lists : {X : Type 0}
-    → (ids lengths text ends posting_counts posting_ids position_counts positions : Both X (Bor (List ℕ))) → Lists
+    → (ids lengths text ends posting_counts posting_ids position_counts positions : Both X (MutBor (List ℕ))) → Lists
 left_lists i l t e pc pi kc ps = lists (left i) (left l) (left t) (left e) (left pc) (left pi) (left kc) (left ps)
 
 abbrev pub posting : ℕ → List ℕ → Posting

@@ -15,3 +15,5 @@
 //   Sheet        the text of a sheet, a bar on paper
 //   Claims       what is claimed of these definitions; proofs/ proves it
 // What each call promises is in specs/Promise.antt of the crate that has the call.
+
+#![tactic(auto)]

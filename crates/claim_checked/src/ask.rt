@@ -1,6 +1,5 @@
 // Write, check once, then ask: the writer is called, then the check on exactly the bytes that it wrote, then the search on the same bytes
 // with the handle that the check answered for them.
-ghost use Rattle.common.specs.Slices.{was, left};
 ghost use Rattle.calls.specs.Given.{given_lists};
 ghost use Rattle.handle.specs.Handles.{HandleOf};
 ghost use Rattle.claim_joint.specs.Promise.{Put, WrittenThenAsked};
@@ -24,8 +23,8 @@ fn ask_with(
     other: &[u8],
     found: &mut [u32],
 ) -> Counted
-    ensures { HandleOf (was bytes) h
-        → Put (was bytes) question (was name) (was name_ends) (was other) (was found) result (left found) }
+    ensures { HandleOf bytes.now h
+        → Put bytes.now question name.now name_ends.now other.now found.old result found.new }
 {
     match question {
         Question::Phrase => phrase_match_strs_checked(bytes, h, name, name_ends, found),
@@ -45,7 +44,7 @@ fn check_then_ask(
     other: &[u8],
     found: &mut [u32],
 ) -> Counted
-    ensures { Put (was bytes) question (was name) (was name_ends) (was other) (was found) result (left found) }
+    ensures { Put bytes.now question name.now name_ends.now other.now found.old result found.new }
 {
     let h = check(bytes);
     ask_with(bytes, h, question, name, name_ends, other, found)
@@ -70,7 +69,7 @@ pub fn write_check_then_ask(
     found: &mut [u32],
 ) -> Asked
     ensures { WrittenThenAsked (given_lists ids lengths text ends posting_counts posting_ids position_counts positions)
-        (was out) question (was name) (was name_ends) (was other) (was found) result (left out) (left found) }
+        out.old question name.now name_ends.now other.now found.old result out.new found.new }
 {
     match write_positional_segment(
         ids,

@@ -1,7 +1,6 @@
 // Import, write, then ask: the importer is called, then the writer on exactly the lists that it made, then the search on exactly the bytes
 // written.
-ghost use Rattle.common.specs.Slices.{was, left};
-ghost use Rattle.calls.specs.Given.{lists, given_lists, left_lists};
+ghost use Rattle.calls.specs.Given.{lists, given_lists, held_lists, left_lists};
 ghost use Rattle.midi_bars.specs.Loudness.{beside};
 ghost use Rattle.claim_joint.specs.declared.ask.Question.TheVariants.{Phrase};
 ghost use Rattle.claim_joint.specs.Promise.{WrittenThenAsked};
@@ -39,7 +38,7 @@ fn ask_fronts(
     requires { HasFronts totals (lists ids.now lengths.now text.now ends.now posting_counts.now posting_ids.now
         position_counts.now positions.now) }
     ensures { WrittenThenAsked (fronts totals (given_lists ids lengths text ends posting_counts posting_ids position_counts
-        positions)) (was out) Phrase (was name) (was name_ends) (was name) (was found) result (left out) (left found) }
+        positions)) out.old Phrase name.now name_ends.now name.now found.old result out.new found.new }
 {
     let documents = totals.documents;
     let terms = totals.terms;
@@ -82,11 +81,11 @@ pub fn import_then_ask(
     name_ends: &[u32],
     found: &mut [u32],
 ) -> ImportAsked
-    ensures { ImportedThenAsked 16 4 (was file)
-        (beside (given_lists ids lengths text ends posting_counts posting_ids position_counts positions) (was velocities))
-        (was out) (was name) (was name_ends) (was found) result
-        (beside (left_lists ids lengths text ends posting_counts posting_ids position_counts positions) (left velocities))
-        (left out) (left found) }
+    ensures { ImportedThenAsked 16 4 file.now
+        (beside (held_lists ids lengths text ends posting_counts posting_ids position_counts positions) velocities.old)
+        out.old name.now name_ends.now found.old result
+        (beside (left_lists ids lengths text ends posting_counts posting_ids position_counts positions) velocities.new)
+        out.new found.new }
 {
     match midi_bars(
         file,

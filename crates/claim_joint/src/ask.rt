@@ -1,5 +1,4 @@
 // Write, then ask: the writer is called, and then the search on exactly the bytes that it wrote.
-ghost use Rattle.common.specs.Slices.{was, left};
 ghost use Rattle.calls.specs.Given.{given_lists};
 ghost use Rattle.claim_joint.specs.Promise.{Put, WrittenThenAsked};
 
@@ -32,7 +31,7 @@ fn ask(
     other: &[u8],
     found: &mut [u32],
 ) -> Counted
-    ensures { Put (was bytes) question (was name) (was name_ends) (was other) (was found) result (left found) }
+    ensures { Put bytes.now question name.now name_ends.now other.now found.old result found.new }
 {
     match question {
         Question::Phrase => phrase_match_strs(bytes, name, name_ends, found),
@@ -62,7 +61,7 @@ pub fn write_then_ask(
     found: &mut [u32],
 ) -> Asked
     ensures { WrittenThenAsked (given_lists ids lengths text ends posting_counts posting_ids position_counts positions)
-        (was out) question (was name) (was name_ends) (was other) (was found) result (left out) (left found) }
+        out.old question name.now name_ends.now other.now found.old result out.new found.new }
 {
     match write_positional_segment(
         ids,

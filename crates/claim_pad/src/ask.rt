@@ -1,5 +1,4 @@
 // Write a pad out, then ask: the search is called on exactly the bytes that were written.
-ghost use Rattle.common.specs.Slices.{was, left};
 ghost use Rattle.claim_pad.specs.Promise.{PadWrittenThenAsked};
 
 use ask_search::questions::phrase_match_strs;
@@ -18,8 +17,8 @@ pub fn write_pad_then_ask(
     name_ends: &[u32],
     found: &mut [u32],
 ) -> Asked
-    ensures { PadWrittenThenAsked (was pad) (was text) (was ends) (was out) (was name) (was name_ends) (was found)
-        result (left out) (left found) }
+    ensures { PadWrittenThenAsked pad.now text.now ends.now out.old name.now name_ends.now found.old
+        result out.new found.new }
 {
     match pad_write(pad, text, ends, out) {
         Written::Length(n) => {

@@ -1,5 +1,4 @@
 // Write, then ask for the ranked answer: the writer is called, and then the ranked search on exactly the bytes that it wrote.
-ghost use Rattle.common.specs.Slices.{was, left};
 ghost use Rattle.calls.specs.Given.{given_lists};
 ghost use Rattle.claim_ranked.specs.Promise.{WrittenThenRanked};
 
@@ -25,7 +24,7 @@ pub fn write_then_rank(
     counts: &mut [u32],
 ) -> Asked
     ensures { WrittenThenRanked (given_lists ids lengths text ends posting_counts posting_ids position_counts positions)
-        (was out) (was name) (was name_ends) (was found) (was counts) result (left out) (left found) (left counts) }
+        out.old name.now name_ends.now found.old counts.old result out.new found.new counts.new }
 {
     match write_positional_segment(
         ids,

@@ -1,5 +1,4 @@
 // Write from records, then ask.
-ghost use Rattle.common.specs.Slices.{was, left};
 ghost use Rattle.calls.specs.Given.{given_lists};
 ghost use Rattle.write_records.specs.Promise.{taken_apart};
 ghost use Rattle.claim_records.specs.Steps.{AskedApart};
@@ -29,7 +28,7 @@ fn ask_apart(
     found: &mut [u32],
 ) -> Asked
     ensures { AskedApart count (given_lists ids lengths text ends posting_counts posting_ids position_counts positions)
-        (was out) question (was name) (was name_ends) (was other) (was found) result (left out) (left found) }
+        out.old question name.now name_ends.now other.now found.old result out.new found.new }
 {
     match check_places(
         count,
@@ -81,9 +80,9 @@ pub fn write_records_then_ask(
     other: &[u8],
     found: &mut [u32],
 ) -> Asked
-    ensures { Demand3Records (taken_apart (was documents) (was text) (was ends) (was posting_counts) (was posting_ids)
-        (was position_counts) (was positions)) (was documents) (was ids) (was lengths) (was out) question (was name) (was name_ends)
-        (was other) (was found) result (left documents) (left ids) (left lengths) (left out) (left found) }
+    ensures { Demand3Records (taken_apart documents.old text.now ends.now posting_counts.now posting_ids.now
+        position_counts.now positions.now) documents.old ids.old lengths.old out.old question name.now name_ends.now
+        other.now found.old result documents.new ids.new lengths.new out.new found.new }
 {
     exchange(documents, ids, lengths);
     let asked = ask_apart(

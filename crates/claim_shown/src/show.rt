@@ -1,5 +1,4 @@
 // Write, then show: the writer is called, and then the sheet on exactly the bytes that it wrote.
-ghost use Rattle.common.specs.Slices.{was, left};
 ghost use Rattle.calls.specs.Given.{given_lists};
 ghost use Rattle.claim_shown.specs.Promise.{WrittenThenShown};
 
@@ -31,7 +30,7 @@ pub fn write_then_show(
     sheet: &mut [u8],
 ) -> Shown
     ensures { WrittenThenShown (given_lists ids lengths text ends posting_counts posting_ids position_counts positions)
-        (was out) id.0 (was sheet) result (left out) (left sheet) }
+        out.old id.0 sheet.old result out.new sheet.new }
 {
     match write_positional_segment(
         ids,

@@ -6,4 +6,6 @@
 //   specs/Stores.antt     what a function that stores into a lent slice leaves there
 //   widths                casts that lose nothing
 // proofs/ has the laws of loops, lists, bytes and stores that the crates above cite.
+#![tactic(auto)]
+
 pub mod widths;

@@ -6,7 +6,6 @@
 //   d, R(x) is a sequence of 32 bits           `remainder`: x^31 is the lowest bit, x^0 the highest
 //   e, it is complemented                      `crc32`: exclusive-or with 32 ones
 ghost use Rattle.std.specs.Prelude.{◌≡◌};
-ghost use Rattle.common.specs.Slices.{was};
 ghost use Rattle.crc32.specs.Crc32.{crc32_of};
 ghost use Rattle.crc32.specs.Parts.{times_x, taken_in, complemented, BothTaken};
 
@@ -47,7 +46,7 @@ fn update(prior: u32, next: u8) -> u32
 
 // The CRC-32 of the bytes.
 pub fn crc32(s: &[u8]) -> u32
-    ensures { result ≡ crc32_of (was s) }
+    ensures { result ≡ crc32_of s.now }
 {
     let mut remainder: u32 = 0xFFFF_FFFF;
     let mut i = 0;
@@ -67,7 +66,7 @@ pub struct Both {
 
 // Both at once: the processor takes the two divisions side by side, in little more time than one.
 pub fn crc32_and_on(s: &[u8], before: u32) -> Both
-    ensures { BothTaken (was s) before result }
+    ensures { BothTaken s.now before result }
 {
     let mut own = START;
     let mut run = before;

@@ -4,4 +4,6 @@
 //   specs/Formula.antt   the same by document 01's numbers and eight steps for each byte
 //   specs/Claims.antt    what is claimed: the division divides, and the formula and a remainder that is carried on agree with it
 //   checksum             the code, to be read beside the standard's page
+#![tactic(auto)]
+
 pub mod checksum;

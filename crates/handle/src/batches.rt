@@ -1,7 +1,6 @@
 // The lists of an open segment decoded up to 128 at a time, over one pass of the metadata. Where that way is not sure of a batch, its lists
 // are decoded one by one, which says the refusal, or that all is well: a bad list costs the walks of its own batch alone.
 ghost use Rattle.std.specs.Prelude.{◌≡◌, true, ◌+◌, ◌≤◌};
-ghost use Rattle.common.specs.Slices.{was, left};
 ghost use Rattle.read_open.specs.Opened.{OpenedAs};
 ghost use Rattle.handle.specs.Steps.{BatchSize, Tables, BatchFilled, BatchDecodes, BatchChecked};
 
@@ -33,7 +32,7 @@ fn fill_batch(
     checksum: &mut [u32],
 )
     requires { OpenedAs bytes.now at × (from + m ≤ at.terms) × Tables m start.old end.old df.old checksum.old }
-    ensures { BatchFilled (was bytes) at from m (left start) (left end) (left df) (left checksum) }
+    ensures { BatchFilled bytes.now at from m start.new end.new df.new checksum.new }
 {
     let mut k: usize = 0;
     while k < m {
@@ -49,7 +48,7 @@ fn fill_batch(
 // Whether the lists of m entries from an index on surely decode.
 fn batch_decodes(bytes: &[u8], at: Layout, from: usize, m: usize) -> bool
     requires { OpenedAs bytes.now at × (from + m ≤ at.terms) × (m ≤ 128) }
-    ensures { result ≡ true → BatchDecodes (was bytes) at from m }
+    ensures { result ≡ true → BatchDecodes bytes.now at from m }
 {
     let mut start = [0usize; 128];
     let mut end = [0usize; 128];
@@ -71,7 +70,7 @@ fn batch_decodes(bytes: &[u8], at: Layout, from: usize, m: usize) -> bool
 // Decodes the lists of the entries from an index up to another one by one; the first refusal stands.
 fn decode_batch(bytes: &[u8], at: Layout, from: usize, to: usize) -> Checked
     requires { OpenedAs bytes.now at × (from ≤ to) × (to ≤ at.terms) }
-    ensures { BatchChecked (was bytes) at from to result }
+    ensures { BatchChecked bytes.now at from to result }
 {
     let mut i = from;
     while i < to {
@@ -90,7 +89,7 @@ fn decode_batch(bytes: &[u8], at: Layout, from: usize, to: usize) -> Checked
 // Decodes the lists of m entries from an index on: the quick way where all are in order; else one by one, for the first refusal.
 pub fn check_batch(bytes: &[u8], at: Layout, from: usize, m: usize) -> Checked
     requires { OpenedAs bytes.now at × (from + m ≤ at.terms) × (m ≤ 128) }
-    ensures { BatchChecked (was bytes) at from (from + m) result }
+    ensures { BatchChecked bytes.now at from (from + m) result }
 {
     if batch_decodes(bytes, at, from, m) {
         return Checked::Passed;

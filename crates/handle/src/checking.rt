@@ -1,6 +1,5 @@
 // A segment checked once: opened, and with `check` every list decoded.
 ghost use Rattle.std.specs.Prelude.{◌≡◌};
-ghost use Rattle.common.specs.Slices.{was};
 ghost use Rattle.read_open.specs.Opened.{OpenedAs};
 ghost use Rattle.handle.specs.Handles.{opened_once, checked_once};
 ghost use Rattle.handle.specs.Steps.{ListsChecked};
@@ -14,7 +13,7 @@ use segment::checked::Checked;
 
 // Opens a segment: its handle at level 1, or the refusal.
 pub fn open_once(bytes: &[u8]) -> Handle
-    ensures { result ≡ opened_once (was bytes) }
+    ensures { result ≡ opened_once bytes.now }
 {
     match open_layout(bytes) {
         Opening::Layout(at) => accepted(1, at),
@@ -25,7 +24,7 @@ pub fn open_once(bytes: &[u8]) -> Handle
 // Decodes every list of an open segment, batch by batch in the directory's order; the first refusal stands.
 pub fn decode_all(bytes: &[u8], at: Layout) -> Checked
     requires { OpenedAs bytes.now at }
-    ensures { ListsChecked (was bytes) at result }
+    ensures { ListsChecked bytes.now at result }
 {
     let terms = long(at.terms);
     let mut from: usize = 0;
@@ -45,7 +44,7 @@ pub fn decode_all(bytes: &[u8], at: Layout) -> Checked
 
 // Opens a segment and decodes every list: its handle at level 2, or the first refusal.
 pub fn check(bytes: &[u8]) -> Handle
-    ensures { result ≡ checked_once (was bytes) }
+    ensures { result ≡ checked_once bytes.now }
 {
     let at = match open_layout(bytes) {
         Opening::Layout(at) => at,

@@ -1,6 +1,5 @@
 // A handle is numbers by value, which a caller keeps beside the bytes and hands back.
 ghost use Rattle.std.specs.Prelude.{◌≡◌, true, ◌↔◌};
-ghost use Rattle.common.specs.Slices.{was};
 ghost use Rattle.handle.specs.Handles.{accepted, refused, layout_of, Usable};
 
 use read_open::header::{Layout, fits};
@@ -74,7 +73,7 @@ pub fn layout_of(h: Handle) -> Layout
 
 // Whether a call uses the handle: nobody vouches for it, but with a layout that fits every lookup stays inside the bytes.
 pub fn usable(bytes: &[u8], h: Handle) -> bool
-    ensures { (result ≡ true) ↔ Usable (was bytes) h }
+    ensures { (result ≡ true) ↔ Usable bytes.now h }
 {
     if h.level == 0 {
         return false;

@@ -1,6 +1,5 @@
 // Stored numbers: unsigned LEB128 (DWARF 5, section 7.6) of one to five bytes, for values of 32 bits.
 ghost use Rattle.std.specs.Prelude.{◌≡◌, ◌+◌, ◌≤◌, length, drop};
-ghost use Rattle.common.specs.Slices.{was, left};
 ghost use Rattle.common.specs.Stores.{Stored};
 ghost use Rattle.leb128.specs.declared.varint.Decoded.TheVariants.{Value};
 ghost use Rattle.leb128.specs.Leb128.{below, uleb128, limited, encoded};
@@ -41,7 +40,7 @@ fn found(value: u32, at: usize) -> Decoded
 // A number at an offset, whose first two bytes, b0 and b1, say that more follow: three to five bytes, below 2^32.
 fn decode_long(s: &[u8], at: usize, b0: u32, b1: u32) -> Decoded
     requires { at + 2 ≤ length s.now }
-    ensures { result ≡ decoded at (limited (below b0 (below b1 (uleb128 (drop (at + 2) (was s)))))) }
+    ensures { result ≡ decoded at (limited (below b0 (below b1 (uleb128 (drop (at + 2) s.now))))) }
 {
     let at2 = at + 2;
     if s.len() <= at2 {
@@ -75,7 +74,7 @@ fn decode_long(s: &[u8], at: usize, b0: u32, b1: u32) -> Decoded
 impl Reader {
     // The number at the reader's offset: one to five bytes, below 2^32; long forms of small numbers included.
     pub fn decode_u32(self, s: &[u8]) -> Decoded
-        ensures { result ≡ decoded_at (was s) self.at }
+        ensures { result ≡ decoded_at s.now self.at }
     {
         let at = self.at;
         if s.len() <= at {
@@ -120,7 +119,7 @@ pub fn encoded_len(x: u32) -> usize
 // The caller has measured: encoded_len says how much room that takes.
 pub fn encode_u32(x: u32, out: &mut [u8], at: usize) -> usize
     requires { at + length (encoded x) ≤ length out.old }
-    ensures { Stored (encoded x) at (was out) result (left out) }
+    ensures { Stored (encoded x) at out.old result out.new }
 {
     let mut rest = x;
     let mut i = at;

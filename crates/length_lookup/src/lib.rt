@@ -3,5 +3,7 @@
 //   check    the lists' refusals: 12, 11, 21
 //   lookup   the call, length_of
 // specs/Lookup.antt defines what it answers, specs/Words.antt says it in words, and specs/Claims.antt that both are the same.
+#![tactic(auto)]
+
 pub mod check;
 pub mod lookup;

@@ -1,4 +1,6 @@
 // Lists a segment: reads it from standard input, at most 65,536 bytes, and writes its listing (or the refusal) to standard output.
+#![tactic(auto)]
+
 use libc::{STDIN_FILENO, STDOUT_FILENO};
 use show_print::print::print_listing;
 

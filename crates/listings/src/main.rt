@@ -1,5 +1,7 @@
 // Lists one file after another: each argument names one, and its listing follows its name. The files in data/ and the stored output
 // are made by runs.py, from the words of documents 01 and 02 and not from a run.
+#![tactic(auto)]
+
 use libc::STDOUT_FILENO;
 use show_print::print::write_listing;
 

@@ -6,3 +6,5 @@
 //   specs/Words.antt         what the file plays, in the customer's words
 //   specs/Claims.antt        what is claimed of the lists
 //   specs/LoudClaims.antt   what is claimed of the velocities
+
+#![tactic(auto)]

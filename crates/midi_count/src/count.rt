@@ -1,6 +1,5 @@
 // The counting pass: how many bars there are, and how many postings and positions each sound has.
 ghost use Rattle.std.specs.Prelude.{◌≡◌, ◌≤◌};
-ghost use Rattle.common.specs.Slices.{was, left};
 ghost use Rattle.midi_read.specs.Files.{grid};
 ghost use Rattle.midi_bars.specs.Bars.{greater};
 ghost use Rattle.midi_count.specs.Tallies.{fresh, opens};
@@ -54,7 +53,7 @@ fn note_hit(
     steps: u64,
 )
     requires { Notable note step bar steps postings.old positions.old }
-    ensures { Noted note step steps (was last) (was postings) (was positions) (left last) (left postings) (left positions) }
+    ensures { Noted note step steps last.old postings.old positions.old last.new postings.new positions.new }
 {
     let before = last[note];
     let more = does_open(before, step, bar, steps);
@@ -83,8 +82,8 @@ pub fn count(
     positions: &mut [u64; 128],
 ) -> Tallied
     requires { Countable s.now ticks steps postings.old positions.old }
-    ensures { Counts (grid ticks steps) (was s) (was last) (was postings) (was positions) result
-        (left last) (left postings) (left positions) }
+    ensures { Counts (grid ticks steps) s.now last.old postings.old positions.old result
+        last.new postings.new positions.new }
 {
     let mut reader = Reader {
         at: 22,

@@ -2,4 +2,6 @@
 //   specs/Tallies.antt   what is kept from hit to hit
 //   count                the pass
 //   specs/Claims.antt    that it comes to the numbers of the lists (crate midi_bars)
+#![tactic(auto)]
+
 pub mod count;

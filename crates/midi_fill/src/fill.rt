@@ -1,6 +1,5 @@
 // The filling pass: each hit stored in the part of the lists that belongs to its sound.
 ghost use Rattle.std.specs.Prelude.{◌≡◌, ◌+◌, ◌≤◌};
-ghost use Rattle.common.specs.Slices.{was, left};
 ghost use Rattle.midi_fill.specs.Stores.{in_last, loud_last, buffers, stored};
 ghost use Rattle.midi_fill.specs.Promise.{Puttable, Fillable, Filled};
 
@@ -53,11 +52,11 @@ fn put_hit(
     requires { Puttable starts.now marks.now note step bar steps
         (buffers last.old postings.old positions.old inside.old loud.old ids.old counts.old places.old
         velocities.old) }
-    ensures { buffers (left last) (left postings) (left positions) (left inside) (left loud) (left ids) (left counts) (left places)
-        (left velocities)
-        ≡ stored (was starts) (was marks) note step steps velocity
-        (buffers (was last) (was postings) (was positions) (was inside) (was loud) (was ids) (was counts) (was places)
-        (was velocities)) }
+    ensures { buffers last.new postings.new positions.new inside.new loud.new ids.new counts.new places.new
+        velocities.new
+        ≡ stored starts.now marks.now note step steps velocity
+        (buffers last.old postings.old positions.old inside.old loud.old ids.old counts.old places.old
+        velocities.old) }
 {
     let before = last[note];
     let more = does_open(before, step, bar, steps);
@@ -99,10 +98,10 @@ pub fn fill(
     requires { Fillable s.now ticks steps starts.now marks.now
         (buffers last.old postings.old positions.old inside.old loud.old ids.old counts.old places.old
         velocities.old) }
-    ensures { Filled (was s) ticks steps (was starts) (was marks)
-        (buffers (was last) (was postings) (was positions) (was inside) (was loud) (was ids) (was counts) (was places) (was velocities))
-        (buffers (left last) (left postings) (left positions) (left inside) (left loud) (left ids) (left counts) (left places)
-        (left velocities)) }
+    ensures { Filled s.now ticks steps starts.now marks.now
+        (buffers last.old postings.old positions.old inside.old loud.old ids.old counts.old places.old velocities.old)
+        (buffers last.new postings.new positions.new inside.new loud.new ids.new counts.new places.new
+        velocities.new) }
 {
     let mut reader = Reader {
         at: 22,

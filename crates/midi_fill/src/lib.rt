@@ -2,4 +2,6 @@
 //   specs/Stores.antt   what is stored for a hit, and where
 //   fill                the pass
 //   specs/Claims.antt   that it comes to the lists (crate midi_bars)
+#![tactic(auto)]
+
 pub mod fill;

@@ -1,6 +1,5 @@
 // Bars from a MIDI file.
-ghost use Rattle.common.specs.Slices.{was, left};
-ghost use Rattle.calls.specs.Given.{given_lists, left_lists};
+ghost use Rattle.calls.specs.Given.{held_lists, left_lists};
 ghost use Rattle.midi_read.specs.Files.{grid};
 ghost use Rattle.midi_bars.specs.Loudness.{beside};
 ghost use Rattle.midi_import.specs.Steps.{Tabled, Chunked, EventsImported};
@@ -39,9 +38,9 @@ fn import_counted(
     velocities: &mut [u8],
 ) -> Imported
     requires { Tabled file.now ticks steps bars postings.now marked.now }
-    ensures { EventsImported (grid ticks steps) (was file)
-        (beside (given_lists ids lengths text ends posting_counts posting_ids position_counts positions) (was velocities)) result
-        (beside (left_lists ids lengths text ends posting_counts posting_ids position_counts positions) (left velocities)) }
+    ensures { EventsImported (grid ticks steps) file.now
+        (beside (held_lists ids lengths text ends posting_counts posting_ids position_counts positions) velocities.old) result
+        (beside (left_lists ids lengths text ends posting_counts posting_ids position_counts positions) velocities.new) }
 {
     let mut starts: [u64; 128] = [0; 128];
     let mut marks: [u64; 128] = [0; 128];
@@ -108,9 +107,9 @@ fn import_events(
     velocities: &mut [u8],
 ) -> Imported
     requires { Chunked file.now ticks steps }
-    ensures { EventsImported (grid ticks steps) (was file)
-        (beside (given_lists ids lengths text ends posting_counts posting_ids position_counts positions) (was velocities)) result
-        (beside (left_lists ids lengths text ends posting_counts posting_ids position_counts positions) (left velocities)) }
+    ensures { EventsImported (grid ticks steps) file.now
+        (beside (held_lists ids lengths text ends posting_counts posting_ids position_counts positions) velocities.old) result
+        (beside (left_lists ids lengths text ends posting_counts posting_ids position_counts positions) velocities.new) }
 {
     let mut last: [u64; 128] = [0; 128];
     let mut held: [u64; 128] = [0; 128];
@@ -151,9 +150,9 @@ pub fn midi_bars(
     positions: &mut [u32],
     velocities: &mut [u8],
 ) -> Imported
-    ensures { BarsImported 16 4 (was file)
-        (beside (given_lists ids lengths text ends posting_counts posting_ids position_counts positions) (was velocities)) result
-        (beside (left_lists ids lengths text ends posting_counts posting_ids position_counts positions) (left velocities)) }
+    ensures { BarsImported 16 4 file.now
+        (beside (held_lists ids lengths text ends posting_counts posting_ids position_counts positions) velocities.old) result
+        (beside (left_lists ids lengths text ends posting_counts posting_ids position_counts positions) velocities.new) }
 {
     match read_chunks(file, QUARTER) {
         Chunks::Refused(x) => Imported::Refused(x),

@@ -4,6 +4,8 @@
 //   room                 13, the first buffer that is too short
 //   store                the lists into buffers of exactly their lengths
 //   import               the call
+#![tactic(auto)]
+
 pub mod import;
 pub mod room;
 pub mod store;

@@ -1,5 +1,4 @@
 // The lists of a file that was counted, stored into buffers of exactly their lengths.
-ghost use Rattle.common.specs.Slices.{was, left};
 ghost use Rattle.calls.specs.Given.{lists, left_lists};
 ghost use Rattle.midi_read.specs.Files.{grid};
 ghost use Rattle.midi_bars.specs.Loudness.{beside};
@@ -22,8 +21,8 @@ fn fill_lists(
 )
     requires { FillFits file.now ticks steps starts.now marks.now posting_ids.old position_counts.old positions.old
         velocities.old }
-    ensures { FillDone (grid ticks steps) (was file) (left posting_ids) (left position_counts) (left positions)
-        (left velocities) }
+    ensures { FillDone (grid ticks steps) file.now posting_ids.new position_counts.new positions.new
+        velocities.new }
 {
     let mut last: [u64; 128] = [0; 128];
     let mut held: [u64; 128] = [0; 128];
@@ -69,8 +68,8 @@ pub fn store(
     requires { StoreFits file.now ticks steps postings.now starts.now marks.now
         (beside (lists ids.old lengths.old text.old ends.old posting_counts.old posting_ids.old position_counts.old
         positions.old) velocities.old) }
-    ensures { StoreDone (grid ticks steps) (was file)
-        (beside (left_lists ids lengths text ends posting_counts posting_ids position_counts positions) (left velocities)) }
+    ensures { StoreDone (grid ticks steps) file.now
+        (beside (left_lists ids lengths text ends posting_counts posting_ids position_counts positions) velocities.new) }
 {
     put_heads(postings, steps, ids, lengths, text, ends, posting_counts);
     fill_lists(

@@ -2,7 +2,6 @@
 // long as what is stored.
 ghost use Rattle.std.specs.Prelude.{◌≡◌, map, ◌+◌, ◌*◌, ◌≤◌, ◌<◌, length, replicate};
 ghost use Rattle.common.specs.Lists.{joined};
-ghost use Rattle.common.specs.Slices.{was, left};
 ghost use Rattle.common.specs.Stores.{Stored};
 ghost use Rattle.midi_bars.specs.Bars.{rising_from, name_of};
 ghost use Rattle.midi_lists.specs.Heads.{heard, counts_of, fours};
@@ -11,7 +10,7 @@ ghost use Rattle.midi_lists.specs.Promise.{CountsFit, HeadsFit, HeadsPut};
 // The ids of the bars: 0, 1, 2, ..
 fn put_ids(ids: &mut [u32])
     requires { length ids.old ≤ 65536 }
-    ensures { left ids ≡ rising_from 0 (length (was ids)) }
+    ensures { ids.new ≡ rising_from 0 (length ids.old) }
 {
     let mut i: usize = 0;
     while i < ids.len() {
@@ -22,7 +21,7 @@ fn put_ids(ids: &mut [u32])
 
 // The lengths of the bars, all the same.
 fn put_lengths(lengths: &mut [u32], steps: u32)
-    ensures { left lengths ≡ replicate (length (was lengths)) steps }
+    ensures { lengths.new ≡ replicate (length lengths.old) steps }
 {
     let mut i: usize = 0;
     while i < lengths.len() {
@@ -34,7 +33,7 @@ fn put_lengths(lengths: &mut [u32], steps: u32)
 // Where the names end: each has four bytes.
 fn put_ends(ends: &mut [u32])
     requires { length ends.old ≤ 128 }
-    ensures { left ends ≡ fours (length (was ends)) }
+    ensures { ends.new ≡ fours (length ends.old) }
 {
     let mut i: usize = 0;
     while i < ends.len() {
@@ -46,7 +45,7 @@ fn put_ends(ends: &mut [u32])
 // The name of one sound; answers the offset past it.
 fn put_name(text: &mut [u8], at: usize, note: usize) -> usize
     requires { (note < 128) × (at + 4 ≤ length text.old) }
-    ensures { Stored (name_of note) at (was text) result (left text) }
+    ensures { Stored (name_of note) at text.old result text.new }
 {
     text[at] = 110;
     text[at + 1] = (48 + note / 100) as u8;
@@ -58,7 +57,7 @@ fn put_name(text: &mut [u8], at: usize, note: usize) -> usize
 // The names of the sounds, one behind the other.
 fn put_names(postings: &[u64; 128], text: &mut [u8])
     requires { length text.old ≡ 4 * length (heard postings.now) }
-    ensures { left text ≡ joined (map name_of (heard (was postings))) }
+    ensures { text.new ≡ joined (map name_of (heard postings.now)) }
 {
     let mut at: usize = 0;
     let mut note: usize = 0;
@@ -73,7 +72,7 @@ fn put_names(postings: &[u64; 128], text: &mut [u8])
 // How many postings each sound has.
 fn put_counts(postings: &[u64; 128], counts: &mut [u32])
     requires { CountsFit postings.now counts.old }
-    ensures { left counts ≡ counts_of (was postings) }
+    ensures { counts.new ≡ counts_of postings.now }
 {
     let mut at: usize = 0;
     let mut note: usize = 0;
@@ -97,8 +96,8 @@ pub fn put_heads(
     counts: &mut [u32],
 )
     requires { HeadsFit postings.now ids.old text.old ends.old counts.old }
-    ensures { HeadsPut (was postings) steps (was ids) (was lengths)
-        (left ids) (left lengths) (left text) (left ends) (left counts) }
+    ensures { HeadsPut postings.now steps ids.old lengths.old
+        ids.new lengths.new text.new ends.new counts.new }
 {
     put_ids(ids);
     put_lengths(lengths, steps);

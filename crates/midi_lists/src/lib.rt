@@ -3,5 +3,7 @@
 //   sums                running sums of a table, and how many sounds there are
 //   heads               bars' ids and lengths; sounds' names, ends of names and counts of postings
 //   specs/Claims.antt   that these are the lists of the hits (crate midi_bars)
+#![tactic(auto)]
+
 pub mod heads;
 pub mod sums;

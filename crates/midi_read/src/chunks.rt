@@ -1,6 +1,5 @@
 // What stands before the events of a file: the header chunk, and the heading of the track chunk.
 ghost use Rattle.std.specs.Prelude.{◌≡◌, ◌+◌, ◌≤◌, length};
-ghost use Rattle.common.specs.Slices.{was};
 ghost use Rattle.segment.specs.Steps.{checked};
 ghost use Rattle.midi_read.specs.Files.{big_field, division_fits, header, heading};
 ghost use Rattle.midi_read.specs.Promise.{ticks_answer, ChunksRead};
@@ -20,7 +19,7 @@ pub enum Chunks {
 // The number of two bytes at an offset, the high one first. The caller has tested that they lie in the slice.
 fn read_u16_at(s: &[u8], at: usize) -> u32
     requires { at + 2 ≤ length s.now }
-    ensures { result ≡ big_field 2 at (was s) }
+    ensures { result ≡ big_field 2 at s.now }
 {
     let b0 = byte(s[at]);
     let b1 = byte(s[at + 1]);
@@ -30,7 +29,7 @@ fn read_u16_at(s: &[u8], at: usize) -> u32
 // The number of four bytes at an offset.
 fn read_u32_at(s: &[u8], at: usize) -> u32
     requires { at + 4 ≤ length s.now }
-    ensures { result ≡ big_field 4 at (was s) }
+    ensures { result ≡ big_field 4 at s.now }
 {
     let b0 = byte(s[at]);
     let b1 = byte(s[at + 1]);
@@ -56,7 +55,7 @@ fn is_division(division: u32, quarter: u32) -> bool
 // The header chunk: MThd, length 6, format 0, one track, then the division.
 fn read_header(s: &[u8], quarter: u32) -> Chunks
     requires { 1 ≤ quarter }
-    ensures { result ≡ ticks_answer (header quarter (was s)) }
+    ensures { result ≡ ticks_answer (header quarter s.now) }
 {
     if s.len() < 14 {
         return Chunks::Refused(midi_file(0));
@@ -73,7 +72,7 @@ fn read_header(s: &[u8], quarter: u32) -> Chunks
 
 // The track chunk's heading: MTrk, and a length that is the rest of the file.
 fn check_heading(s: &[u8]) -> Checked
-    ensures { result ≡ checked (heading (was s)) }
+    ensures { result ≡ checked (heading s.now) }
 {
     if s.len() < 22 {
         return Checked::Refused(midi_file(14));
@@ -90,7 +89,7 @@ fn check_heading(s: &[u8]) -> Checked
 // A file's two chunks, as far as the events: 12, then the header, then the heading.
 pub fn read_chunks(s: &[u8], quarter: u32) -> Chunks
     requires { 1 ≤ quarter }
-    ensures { ChunksRead quarter (was s) result }
+    ensures { ChunksRead quarter s.now result }
 {
     if LIMIT < s.len() {
         return Chunks::Refused(too_large());

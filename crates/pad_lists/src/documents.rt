@@ -1,5 +1,4 @@
 // Ids and lengths of the bars, by rising id as they stand in the pad.
-ghost use Rattle.common.specs.Slices.{was, left};
 ghost use Rattle.pad_lists.specs.Steps.{DocumentsFit, DocumentsGathered};
 
 use common::widths::long;
@@ -7,7 +6,7 @@ use common::widths::long;
 // The bars' ids and lengths, at the front of two lists.
 pub fn gather_documents(pad: &[u32], ids: &mut [u32; 256], lengths: &mut [u32; 256])
     requires { DocumentsFit pad.now ids.old lengths.old }
-    ensures { DocumentsGathered (was pad) (left ids) (left lengths) }
+    ensures { DocumentsGathered pad.now ids.new lengths.new }
 {
     let bars = long(pad[0]);
     let mut at: usize = 2;

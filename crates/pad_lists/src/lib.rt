@@ -3,5 +3,7 @@
 //   specs/Steps.antt   what stands in the lists afterwards
 //   documents          ids and lengths of the bars
 //   sound              the postings of one sound, with their positions
+#![tactic(auto)]
+
 pub mod documents;
 pub mod sound;

@@ -1,6 +1,5 @@
 // The postings of one sound: each bar that has it, by rising id, with the steps of its hits of that sound.
 ghost use Rattle.std.specs.Prelude.{◌≡◌, cond, ◌+◌, ◌<◌, ltb, drop};
-ghost use Rattle.common.specs.Slices.{was, left};
 ghost use Rattle.common.specs.Stores.{Stored};
 ghost use Rattle.pad_words.specs.Words.{hits_of};
 ghost use Rattle.pad_lists.specs.Steps.{leading, RunFits, SoundFits, SoundGathered};
@@ -25,7 +24,7 @@ fn gather_run(
     filled: usize,
 ) -> usize
     requires { RunFits pad.now from remaining positions.old filled }
-    ensures { Stored (leading sound (hits_of remaining (drop from (was pad)))) filled (was positions) result (left positions) }
+    ensures { Stored (leading sound (hits_of remaining (drop from pad.now))) filled positions.old result positions.new }
 {
     let mut at = from;
     let mut next = filled;
@@ -64,7 +63,7 @@ pub fn gather_sound(
     positions: &mut [u32; 8192],
 ) -> Gathered
     requires { SoundFits pad.now sound cursors.old posting_ids.old counts.old positions.old }
-    ensures { SoundGathered (was pad) sound result (left cursors) (left posting_ids) (left counts) (left positions) }
+    ensures { SoundGathered pad.now sound result cursors.new posting_ids.new counts.new positions.new }
 {
     let bars = long(pad[0]);
     let mut at: usize = 2;

@@ -4,3 +4,5 @@
 //   Acts      save, erase, read back and write out on the map, each with its refusals in document 02's order
 //   Claims    what is claimed of these definitions; proofs/ proves it
 // Crate pad_words says how a map is held in words.
+
+#![tactic(auto)]

@@ -1,6 +1,5 @@
 // A bar read back: its length, and its hits into three lent lists.
 ghost use Rattle.std.specs.Prelude.{◌≡◌, drop};
-ghost use Rattle.common.specs.Slices.{was, left};
 ghost use Rattle.pad_words.specs.Words.{hits_of};
 ghost use Rattle.pad_read.specs.Promise.{BarReadBack};
 ghost use Rattle.pad_read.specs.Steps.{low_byte, Fillable, HitsFilled};
@@ -29,8 +28,8 @@ fn fill_hits(
     velocities: &mut [u8],
 )
     requires { Fillable pad.now from count sounds.old steps.old velocities.old }
-    ensures { HitsFilled (hits_of count (drop from (was pad))) (was sounds) (was steps) (was velocities)
-        (left sounds) (left steps) (left velocities) }
+    ensures { HitsFilled (hits_of count (drop from pad.now)) sounds.old steps.old velocities.old
+        sounds.new steps.new velocities.new }
 {
     let mut at = from;
     let mut i: usize = 0;
@@ -53,8 +52,8 @@ pub fn pad_read(
     steps: &mut [u32],
     velocities: &mut [u8],
 ) -> BarRead
-    ensures { BarReadBack (was pad) id (was sounds) (was steps) (was velocities)
-        result (left sounds) (left steps) (left velocities) }
+    ensures { BarReadBack pad.now id sounds.old steps.old velocities.old
+        result sounds.new steps.new velocities.new }
 {
     if !is_whole(pad) {
         return BarRead::Refused(broken_pad());

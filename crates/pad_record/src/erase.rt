@@ -1,5 +1,4 @@
 // A bar erased.
-ghost use Rattle.common.specs.Slices.{was, left};
 ghost use Rattle.pad_record.specs.Promise.{BarErased};
 
 use crate::moves::move_down;
@@ -12,7 +11,7 @@ use segment::replies::Counted;
 // How many hits the bar had, which is held no longer; the bars behind it move down, so that free words lie behind the last bar only. Or 20;
 // 16, which leave every word as it was.
 pub fn pad_erase(pad: &mut [u32], id: u32) -> Counted
-    ensures { BarErased (was pad) id result (left pad) }
+    ensures { BarErased pad.old id result pad.new }
 {
     if !is_whole(pad) {
         return Counted::Refused(broken_pad());

@@ -3,6 +3,8 @@
 //   put     a bar's words stored
 //   erase   a bar erased, the words behind it moved down
 //   save    a bar saved, the words behind its offset moved up
+#![tactic(auto)]
+
 pub mod erase;
 pub mod moves;
 pub mod put;

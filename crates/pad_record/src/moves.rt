@@ -1,13 +1,12 @@
 // Words moved within the pad: the gap of an erased bar closed, room for a new one opened.
 ghost use Rattle.std.specs.Prelude.{◌+◌, ◌≤◌, length};
-ghost use Rattle.common.specs.Slices.{was, left};
 ghost use Rattle.segment.specs.Records.{between};
 ghost use Rattle.pad_record.specs.Steps.{Put};
 
 // The words from `from` to `to` moved down to `at`, the first one first.
 pub fn move_down(pad: &mut [u32], at: usize, from: usize, to: usize)
     requires { (at ≤ from) × (from ≤ to) × (to ≤ length pad.old) }
-    ensures { Put (between from to (was pad)) at (was pad) (left pad) }
+    ensures { Put (between from to pad.old) at pad.old pad.new }
 {
     let mut next = at;
     let mut i = from;
@@ -21,7 +20,7 @@ pub fn move_down(pad: &mut [u32], at: usize, from: usize, to: usize)
 // The words from `from` to `to` moved up by so many, the last one first.
 pub fn move_up(pad: &mut [u32], from: usize, to: usize, by: usize)
     requires { (from ≤ to) × (to + by ≤ length pad.old) }
-    ensures { Put (between from to (was pad)) (from + by) (was pad) (left pad) }
+    ensures { Put (between from to pad.old) (from + by) pad.old pad.new }
 {
     let mut i = to;
     while from < i {

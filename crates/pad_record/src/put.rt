@@ -1,6 +1,5 @@
 // A bar's words stored.
 ghost use Rattle.std.specs.Prelude.{◌≡◌, ◌+◌, ◌*◌};
-ghost use Rattle.common.specs.Slices.{was, left};
 ghost use Rattle.pad_map.specs.Bars.{hits_in};
 ghost use Rattle.pad_words.specs.Words.{hit_words};
 ghost use Rattle.pad_record.specs.Steps.{Put, HitsRoom, BarRoom, BarPut};
@@ -18,7 +17,7 @@ fn first_word(sound: u8, velocity: u8) -> u32
 // The hits from an offset on.
 pub fn put_hits(pad: &mut [u32], at: usize, sounds: &[u8], steps: &[u32], velocities: &[u8])
     requires { HitsRoom pad.old at sounds.now steps.now velocities.now }
-    ensures { Put (hit_words (hits_in (was sounds) (was steps) (was velocities))) at (was pad) (left pad) }
+    ensures { Put (hit_words (hits_in sounds.now steps.now velocities.now)) at pad.old pad.new }
 {
     let mut next = at;
     let mut i: usize = 0;
@@ -42,7 +41,7 @@ pub fn put_bar(
     velocities: &[u8],
 )
     requires { BarRoom pad.old at end sounds.now steps.now velocities.now }
-    ensures { BarPut (was pad) at end id len (was sounds) (was steps) (was velocities) (left pad) }
+    ensures { BarPut pad.old at end id len sounds.now steps.now velocities.now pad.new }
 {
     let count = sounds.len();
     move_up(pad, at, end, 3 + 2 * count);

@@ -1,5 +1,4 @@
 // A bar saved.
-ghost use Rattle.common.specs.Slices.{was, left};
 ghost use Rattle.pad_record.specs.Promise.{BarSaved};
 
 use crate::put::put_bar;
@@ -22,7 +21,7 @@ pub fn pad_save(
     steps: &[u32],
     velocities: &[u8],
 ) -> Counted
-    ensures { BarSaved (was pad) id length (was sounds) (was steps) (was velocities) result (left pad) }
+    ensures { BarSaved pad.old id length sounds.now steps.now velocities.now result pad.new }
 {
     if !is_whole(pad) {
         return Counted::Refused(broken_pad());

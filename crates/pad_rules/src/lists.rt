@@ -1,7 +1,6 @@
 // The tests of the lists handed to saving, each over all hits before the next.
 ghost use Rattle.std.specs.Prelude.{◌≡◌, length};
 ghost use Rattle.std.proofs.Math.Option.{none};
-ghost use Rattle.common.specs.Slices.{was};
 ghost use Rattle.segment.specs.Steps.{checked};
 ghost use Rattle.pad_map.specs.Rules.{all_up_to, all_audible, hits_rise, all_below, check_hits};
 
@@ -23,7 +22,7 @@ pub const HIGHEST_VELOCITY: u8 = 127;
 
 // Whether every number is at most `high`.
 fn is_up_to(xs: &[u8], high: u8) -> bool
-    ensures { result ≡ all_up_to high (was xs) }
+    ensures { result ≡ all_up_to high xs.now }
 {
     let mut i: usize = 0;
     while i < xs.len() {
@@ -37,7 +36,7 @@ fn is_up_to(xs: &[u8], high: u8) -> bool
 
 // Whether every velocity is from 1 to 127.
 fn is_audible(velocities: &[u8]) -> bool
-    ensures { result ≡ all_audible (was velocities) }
+    ensures { result ≡ all_audible velocities.now }
 {
     let mut i: usize = 0;
     while i < velocities.len() {
@@ -55,7 +54,7 @@ fn is_audible(velocities: &[u8]) -> bool
 // Whether hits rise strictly by sound, then step.
 fn is_rising(sounds: &[u8], steps: &[u32]) -> bool
     requires { length sounds.now ≡ length steps.now }
-    ensures { result ≡ hits_rise none (was sounds) (was steps) }
+    ensures { result ≡ hits_rise none sounds.now steps.now }
 {
     let mut sound_before: u32 = 0;
     let mut step_before: u32 = 0;
@@ -75,7 +74,7 @@ fn is_rising(sounds: &[u8], steps: &[u32]) -> bool
 
 // Whether every step is below the length.
 fn is_below(steps: &[u32], len: u32) -> bool
-    ensures { result ≡ all_below len (was steps) }
+    ensures { result ≡ all_below len steps.now }
 {
     let mut i: usize = 0;
     while i < steps.len() {
@@ -89,7 +88,7 @@ fn is_below(steps: &[u32], len: u32) -> bool
 
 // Kinds 12, 11, 12 for a sound above 127, 22 for a velocity outside 1 to 127, 6 for the order, 6 for a step that is not below the length.
 pub fn check_hits_of(len: u32, sounds: &[u8], steps: &[u32], velocities: &[u8]) -> Checked
-    ensures { result ≡ checked (check_hits len (was sounds) (was steps) (was velocities)) }
+    ensures { result ≡ checked (check_hits len sounds.now steps.now velocities.now) }
 {
     if LIMIT < sounds.len() {
         return Checked::Refused(too_large());

@@ -1,7 +1,6 @@
 // Whether the words are a pad: kind 20.
 ghost use Rattle.std.specs.Prelude.{◌≡◌, ◌+◌, ◌*◌, ◌≤◌, length, drop};
 ghost use Rattle.std.proofs.Math.Option.{none};
-ghost use Rattle.common.specs.Slices.{was};
 ghost use Rattle.segment.specs.Records.{rises};
 ghost use Rattle.segment.specs.Steps.{earlier};
 ghost use Rattle.pad_map.specs.Bars.{hit, key};
@@ -43,7 +42,7 @@ fn hit_fine(
 // The hits of a bar, from an offset on.
 fn hits_fine(pad: &[u32], from: usize, count: usize, len: u32) -> bool
     requires { from + 2 * count ≤ length pad.now }
-    ensures { result ≡ hits_rule len none (hits_of count (drop from (was pad))) }
+    ensures { result ≡ hits_rule len none (hits_of count (drop from pad.now)) }
 {
     let mut at = from;
     let mut sound_before: u32 = 0;
@@ -85,7 +84,7 @@ fn id_rises(first: bool, id_before: u32, id: u32) -> bool
 // Whether the words are a pad, whatever their number and values. Counts are taken off what remains of word 1 and never added up, so that no
 // sum wraps and no hit is read beyond the pad's places.
 pub fn is_whole(pad: &[u32]) -> bool
-    ensures { result ≡ whole (was pad) }
+    ensures { result ≡ whole pad.now }
 {
     if pad.len() != WORDS {
         return false;

@@ -5,6 +5,8 @@
 //   check    whether the words are a pad
 //   place    where a bar begins, or where it would
 // Crate pad_read reads a bar back and answers the number of hits, pad_record saves and erases, pad_write writes out.
+#![tactic(auto)]
+
 pub mod check;
 pub mod layout;
 pub mod place;

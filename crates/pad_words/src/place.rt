@@ -1,6 +1,5 @@
 // Where a bar begins in the pad, or where it would.
 ghost use Rattle.std.specs.Prelude.{◌≡◌};
-ghost use Rattle.common.specs.Slices.{was};
 ghost use Rattle.pad_words.specs.Words.{held};
 ghost use Rattle.pad_words.specs.Steps.{place_from, Inside};
 
@@ -15,7 +14,7 @@ pub enum Place {
 // Bars stand by rising id, so the first that is not lower decides.
 pub fn place_of(pad: &[u32], id: u32) -> Place
     requires { Inside pad.now }
-    ensures { result ≡ place_from 2 (held (was pad)) id }
+    ensures { result ≡ place_from 2 (held pad.now) id }
 {
     let count = long(pad[0]);
     let mut at: usize = 2;

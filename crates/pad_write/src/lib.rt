@@ -3,6 +3,8 @@
 //   store     the sounds stored
 //   write     the call
 // Crate pad_words defines what the call answers (specs/Calls.antt); specs/Promise.antt here says what it leaves in the lent slice.
+#![tactic(auto)]
+
 pub mod measure;
 pub mod store;
 pub mod write;

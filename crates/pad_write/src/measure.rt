@@ -2,7 +2,6 @@
 // terms there are and how many bytes their names and posting lists take. Only one sound's lists are held at a time.
 ghost use Rattle.std.specs.Prelude.{◌≡◌};
 ghost use Rattle.common.specs.Lists.{paired};
-ghost use Rattle.common.specs.Slices.{was, left};
 ghost use Rattle.segment.specs.Metadata.{document};
 ghost use Rattle.segment.specs.Texts.{names};
 ghost use Rattle.pad_map.specs.Acts.{terms_of};
@@ -49,8 +48,8 @@ fn measure_sound(
     tally: Tally,
 ) -> Tallied
     requires { SoundMeasurable ids.now lengths.now text.now posting_ids.now counts.now positions.now got end tally }
-    ensures { result ≡ tallied (paired document (was ids) (was lengths)) (was text) got.postings
-        (gathered (was posting_ids) (was counts) (was positions) got) end tally }
+    ensures { result ≡ tallied (paired document ids.now lengths.now) text.now got.postings
+        (gathered posting_ids.now counts.now positions.now got) end tally }
 {
     let n = got.postings;
     let k = got.positions;
@@ -106,8 +105,8 @@ pub fn measure_sounds(
 ) -> Tallied
     requires { PadAndNames pad.now text.now ends.now posting_ids.old counts.old positions.old
         × DocumentsGiven pad.now ids.now lengths.now }
-    ensures { SoundsMeasured (paired document (was ids) (was lengths))
-        (terms_of 0 (names 0 (was ends) (was text)) (held (was pad))) result (left posting_ids) (left counts) (left positions) }
+    ensures { SoundsMeasured (paired document ids.now lengths.now)
+        (terms_of 0 (names 0 ends.now text.now) (held pad.now)) result posting_ids.new counts.new positions.new }
 {
     let mut cursors: [u32; 256] = [0; 256];
     let mut tally = Tally {

@@ -1,6 +1,5 @@
 // The sounds taken one by one and stored: the posting list, behind it the directory entry, which has the list's length and checksum, and
 // the name from where it stands in the text.
-ghost use Rattle.common.specs.Slices.{was, left};
 ghost use Rattle.segment.specs.Records.{between};
 ghost use Rattle.segment.specs.Texts.{names};
 ghost use Rattle.pad_map.specs.Acts.{terms_of};
@@ -40,8 +39,8 @@ fn put_sound(
     at: Progress,
 ) -> Progress
     requires { SoundRoom text.now posting_ids.now counts.now positions.now got end out.old names_at lists_at at }
-    ensures { SoundStored names_at lists_at (between at.from end (was text))
-        (gathered (was posting_ids) (was counts) (was positions) got) got.postings end (was out) at result (left out) }
+    ensures { SoundStored names_at lists_at (between at.from end text.now)
+        (gathered posting_ids.now counts.now positions.now got) got.postings end out.old at result out.new }
 {
     let n = got.postings;
     let k = got.positions;
@@ -93,8 +92,8 @@ pub fn put_sounds(
 ) -> u32
     requires { PadAndNames pad.now text.now ends.now posting_ids.old counts.old positions.old
         × TermsRoom names_at lists_at (terms_of 0 (names 0 ends.now text.now) (held pad.now)) out.old }
-    ensures { TermsStored names_at lists_at (terms_of 0 (names 0 (was ends) (was text)) (held (was pad))) (was out) result
-        (left out) }
+    ensures { TermsStored names_at lists_at (terms_of 0 (names 0 ends.now text.now) (held pad.now)) out.old result
+        out.new }
 {
     let mut cursors: [u32; 256] = [0; 256];
     let mut at = Progress {

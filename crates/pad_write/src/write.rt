@@ -1,7 +1,6 @@
 // The call. Everything is checked and measured before the first byte is stored, so a refusal leaves the slice as it was. The two passes
 // share the lists of a sound, which are the only ones: together with the bars' ids and lengths they take 36 KiB of the stack.
 ghost use Rattle.std.specs.Prelude.{◌≡◌};
-ghost use Rattle.common.specs.Slices.{was, left};
 ghost use Rattle.segment.specs.Steps.{checked};
 ghost use Rattle.segment.specs.Texts.{names};
 ghost use Rattle.calls.specs.Given.{laid_flat};
@@ -28,7 +27,7 @@ use write_segment::sizes::metadata_len;
 
 // Kinds 12 and 11: the text's length, and a name for each sound.
 fn check_text(text: &[u8], ends: &[u32]) -> Checked
-    ensures { result ≡ checked (check_text (was text) (was ends)) }
+    ensures { result ≡ checked (check_text text.now ends.now) }
 {
     if LIMIT < text.len() {
         return Checked::Refused(too_large());
@@ -62,7 +61,7 @@ fn put_segment(
     requires { PadAndNames pad.now text.now ends.now posting_ids.old counts.old positions.old
         × DocumentsGiven pad.now ids.now lengths.now
         × SegmentRoom (given_of (names 0 ends.now text.now) (held pad.now)) out.old terms at }
-    ensures { SegmentStored (given_of (names 0 (was ends) (was text)) (held (was pad))) (was out) (left out) }
+    ensures { SegmentStored (given_of (names 0 ends.now text.now) (held pad.now)) out.old out.new }
 {
     let lists_crc = put_sounds(
         pad,
@@ -93,7 +92,7 @@ fn write_sounds(
 ) -> Written
     requires { PadAndNames pad.now text.now ends.now posting_ids.old counts.old positions.old
         × DocumentsGiven pad.now ids.now lengths.now }
-    ensures { Wrote (laid_flat (given_of (names 0 (was ends) (was text)) (held (was pad)))) (was out) result (left out) }
+    ensures { Wrote (laid_flat (given_of (names 0 ends.now text.now) (held pad.now))) out.old result out.new }
 {
     let tally = match measure_sounds(
         pad,
@@ -142,7 +141,7 @@ fn write_sounds(
 // Writes the pad out as a segment, its sounds named by a text of 128 names: the length and the bytes at the slice's front, or the first
 // refusal in document 02's order, which leaves the slice as it was.
 pub fn pad_write(pad: &[u32], text: &[u8], ends: &[u32], out: &mut [u8]) -> Written
-    ensures { PadWritten (was pad) (was text) (was ends) (was out) result (left out) }
+    ensures { PadWritten pad.now text.now ends.now out.old result out.new }
 {
     if !is_whole(pad) {
         return Written::Refused(broken_pad());

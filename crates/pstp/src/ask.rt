@@ -1,6 +1,5 @@
 // The searches. Each answers first: how many documents meet the question, and their ids in a buffer, rising or the best first; or a
 // refusal.
-ghost use Rattle.common.specs.Slices.{was, left};
 ghost use Rattle.rules.specs.Kinds.{near_rule};
 ghost use Rattle.ask_ranked.specs.Promise.{RankedAnswered};
 ghost use Rattle.ask_search.specs.Promise.{TextAnswered, TwoAnswered};
@@ -19,7 +18,7 @@ pub extern "C" fn pstp_phrase_match_strs(
     ends: &[u32],
     ids: &mut [u32],
 ) -> Reply
-    ensures { Replied counted_reply (λ a. TextAnswered (was bytes) Rule.Phrase (was text) (was ends) (was ids) a (left ids)) result }
+    ensures { Replied counted_reply (λ a. TextAnswered bytes.now Rule.Phrase text.now ends.now ids.old a ids.new) result }
 {
     of_counted(phrase_match_strs(bytes, text, ends, ids))
 }
@@ -33,7 +32,7 @@ pub extern "C" fn pstp_near_match(
     window: u32,
     ids: &mut [u32],
 ) -> Reply
-    ensures { Replied counted_reply (λ c. TwoAnswered (was bytes) window (was a) (was b) (was ids) c (left ids)) result }
+    ensures { Replied counted_reply (λ c. TwoAnswered bytes.now window a.now b.now ids.old c ids.new) result }
 {
     of_counted(near_match(bytes, a, b, window, ids))
 }
@@ -48,8 +47,8 @@ pub extern "C" fn pstp_near_match_terms_strs(
     ordered: bool,
     ids: &mut [u32],
 ) -> Reply
-    ensures { Replied counted_reply (λ a. TextAnswered (was bytes) (near_rule ordered window) (was text) (was ends) (was ids) a
-        (left ids)) result }
+    ensures { Replied counted_reply (λ a. TextAnswered bytes.now (near_rule ordered window) text.now ends.now ids.old a
+        ids.new) result }
 {
     of_counted(near_match_terms_strs(bytes, text, ends, window, ordered, ids))
 }
@@ -64,8 +63,8 @@ pub extern "C" fn pstp_phrase_match_ranked(
     ids: &mut [u32],
     counts: &mut [u32],
 ) -> Reply
-    ensures { Replied counted_reply (λ a. RankedAnswered (was bytes) (was text) (was ends) (was ids) (was counts) a (left ids)
-        (left counts)) result }
+    ensures { Replied counted_reply (λ a. RankedAnswered bytes.now text.now ends.now ids.old counts.old a ids.new
+        counts.new) result }
 {
     of_counted(phrase_match_ranked(bytes, text, ends, ids, counts))
 }

@@ -1,6 +1,5 @@
 // Segments checked once, and the calls with a handle: each beside the call of its name that opens the segment itself.
 ghost use Rattle.std.specs.Prelude.{◌≡◌};
-ghost use Rattle.common.specs.Slices.{was, left};
 ghost use Rattle.rules.specs.Kinds.{near_rule};
 ghost use Rattle.handle.specs.Handles.{opened_once, checked_once};
 ghost use Rattle.read_checked.specs.Promise.{LengthChecked, DfChecked, DocsChecked, PostingsChecked, PositionsChecked};
@@ -22,7 +21,7 @@ use segment::ids::DocId;
 // The handle of a segment that opens, at level 1; or the refusal.
 #[unsafe(no_mangle)]
 pub extern "C" fn pstp_open_once(bytes: &[u8]) -> Handle
-    ensures { result ≡ opened_once (was bytes) }
+    ensures { result ≡ opened_once bytes.now }
 {
     open_once(bytes)
 }
@@ -31,7 +30,7 @@ pub extern "C" fn pstp_open_once(bytes: &[u8]) -> Handle
 // the directory's order.
 #[unsafe(no_mangle)]
 pub extern "C" fn pstp_check(bytes: &[u8]) -> Handle
-    ensures { result ≡ checked_once (was bytes) }
+    ensures { result ≡ checked_once bytes.now }
 {
     check(bytes)
 }
@@ -39,7 +38,7 @@ pub extern "C" fn pstp_check(bytes: &[u8]) -> Handle
 // first: 1, and second: the document's length; 0 and 0 where it is unknown.
 #[unsafe(no_mangle)]
 pub extern "C" fn pstp_document_len_checked(bytes: &[u8], handle: Handle, id: u32) -> Reply
-    ensures { Replied length_reply (λ a. LengthChecked (was bytes) handle id a) result }
+    ensures { Replied length_reply (λ a. LengthChecked bytes.now handle id a) result }
 {
     of_length(document_len_checked(bytes, handle, DocId(id)))
 }
@@ -47,7 +46,7 @@ pub extern "C" fn pstp_document_len_checked(bytes: &[u8], handle: Handle, id: u3
 // first: the number of documents that contain the term, as the directory has it; 0 for an unknown term.
 #[unsafe(no_mangle)]
 pub extern "C" fn pstp_df_checked(bytes: &[u8], handle: Handle, name: &[u8]) -> Reply
-    ensures { Replied frequency_reply (λ a. DfChecked (was bytes) handle (was name) a) result }
+    ensures { Replied frequency_reply (λ a. DfChecked bytes.now handle name.now a) result }
 {
     of_doc_freq(df_checked(bytes, handle, name))
 }
@@ -60,7 +59,7 @@ pub extern "C" fn pstp_docs_with_term_checked(
     name: &[u8],
     ids: &mut [u32],
 ) -> Reply
-    ensures { Replied counted_reply (λ a. DocsChecked (was bytes) handle (was name) (was ids) a (left ids)) result }
+    ensures { Replied counted_reply (λ a. DocsChecked bytes.now handle name.now ids.old a ids.new) result }
 {
     of_counted(docs_with_term_checked(bytes, handle, name, ids))
 }
@@ -75,8 +74,8 @@ pub extern "C" fn pstp_term_postings_checked(
     counts: &mut [u32],
     places: &mut [u32],
 ) -> Reply
-    ensures { Replied listed_reply (λ a. PostingsChecked (was bytes) handle (was name) (was ids) (was counts) (was places) a
-        (left ids) (left counts) (left places)) result }
+    ensures { Replied listed_reply (λ a. PostingsChecked bytes.now handle name.now ids.old counts.old places.old a
+        ids.new counts.new places.new) result }
 {
     of_listed(term_postings_checked(bytes, handle, name, ids, counts, places))
 }
@@ -90,7 +89,7 @@ pub extern "C" fn pstp_positions_checked(
     id: u32,
     places: &mut [u32],
 ) -> Reply
-    ensures { Replied counted_reply (λ a. PositionsChecked (was bytes) handle (was name) id (was places) a (left places)) result }
+    ensures { Replied counted_reply (λ a. PositionsChecked bytes.now handle name.now id places.old a places.new) result }
 {
     of_counted(positions_checked(bytes, handle, name, DocId(id), places))
 }
@@ -104,8 +103,8 @@ pub extern "C" fn pstp_phrase_match_strs_checked(
     ends: &[u32],
     ids: &mut [u32],
 ) -> Reply
-    ensures { Replied counted_reply (λ a. TextChecked (was bytes) handle Rule.Phrase (was text) (was ends) (was ids) a
-        (left ids)) result }
+    ensures { Replied counted_reply (λ a. TextChecked bytes.now handle Rule.Phrase text.now ends.now ids.old a
+        ids.new) result }
 {
     of_counted(phrase_match_strs_checked(bytes, handle, text, ends, ids))
 }
@@ -120,7 +119,7 @@ pub extern "C" fn pstp_near_match_checked(
     window: u32,
     ids: &mut [u32],
 ) -> Reply
-    ensures { Replied counted_reply (λ c. TwoChecked (was bytes) handle window (was a) (was b) (was ids) c (left ids)) result }
+    ensures { Replied counted_reply (λ c. TwoChecked bytes.now handle window a.now b.now ids.old c ids.new) result }
 {
     of_counted(near_match_checked(bytes, handle, a, b, window, ids))
 }
@@ -136,8 +135,8 @@ pub extern "C" fn pstp_near_match_terms_strs_checked(
     ordered: bool,
     ids: &mut [u32],
 ) -> Reply
-    ensures { Replied counted_reply (λ a. TextChecked (was bytes) handle (near_rule ordered window) (was text) (was ends) (was ids)
-        a (left ids)) result }
+    ensures { Replied counted_reply (λ a. TextChecked bytes.now handle (near_rule ordered window) text.now ends.now ids.old
+        a ids.new) result }
 {
     of_counted(near_match_terms_strs_checked(bytes, handle, text, ends, window, ordered, ids))
 }

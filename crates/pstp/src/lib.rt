@@ -11,6 +11,8 @@
 //   lookup         a length in a caller's own lists
 //   pad            a pad to record on
 // The promises are those of the calls behind.
+#![tactic(auto)]
+
 pub mod ask;
 pub mod handles;
 pub mod lookup;

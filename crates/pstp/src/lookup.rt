@@ -1,6 +1,5 @@
 // A length looked up in a caller's own lists.
 ghost use Rattle.std.specs.Prelude.{◌≡◌};
-ghost use Rattle.common.specs.Slices.{was};
 ghost use Rattle.calls.specs.Replies.{length_answer};
 ghost use Rattle.length_lookup.specs.Lookup.{looked_up};
 ghost use Rattle.c_reply.specs.Replies.{length_reply};
@@ -12,7 +11,7 @@ use segment::ids::DocId;
 // first: 1, and second: the length beside the id; 0 and 0 where the list lacks it.
 #[unsafe(no_mangle)]
 pub extern "C" fn pstp_length_of(ids: &[u32], lengths: &[u32], id: u32) -> Reply
-    ensures { result ≡ length_reply (length_answer (looked_up (was ids) (was lengths) id)) }
+    ensures { result ≡ length_reply (length_answer (looked_up ids.now lengths.now id)) }
 {
     of_length(length_of(ids, lengths, DocId(id)))
 }

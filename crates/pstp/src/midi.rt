@@ -1,6 +1,5 @@
 // Bars from MIDI files.
-ghost use Rattle.common.specs.Slices.{was, left};
-ghost use Rattle.calls.specs.Given.{given_lists, left_lists};
+ghost use Rattle.calls.specs.Given.{held_lists, left_lists};
 ghost use Rattle.midi_bars.specs.Loudness.{beside};
 ghost use Rattle.midi_import.specs.Promise.{BarsImported};
 ghost use Rattle.c_reply.specs.Replies.{Replied, imported_reply};
@@ -23,9 +22,9 @@ pub extern "C" fn pstp_midi_bars(
     positions: &mut [u32],
     velocities: &mut [u8],
 ) -> Reply
-    ensures { Replied imported_reply (λ a. BarsImported 16 4 (was file)
-        (beside (given_lists ids lengths text ends posting_counts posting_ids position_counts positions) (was velocities)) a
-        (beside (left_lists ids lengths text ends posting_counts posting_ids position_counts positions) (left velocities))) result }
+    ensures { Replied imported_reply (λ a. BarsImported 16 4 file.now
+        (beside (held_lists ids lengths text ends posting_counts posting_ids position_counts positions) velocities.old) a
+        (beside (left_lists ids lengths text ends posting_counts posting_ids position_counts positions) velocities.new)) result }
 {
     of_imported(midi_bars(
         file,

@@ -1,7 +1,6 @@
 // A pad to record on: bars saved, erased, read back and written out, and the number of hits on the display, which is answered as stored.
 // Each call but that one answers 20 for words that are no pad, before all else.
 ghost use Rattle.std.specs.Prelude.{◌≡◌};
-ghost use Rattle.common.specs.Slices.{was, left};
 ghost use Rattle.pad_read.specs.Counter.{pad_hits};
 ghost use Rattle.pad_read.specs.Promise.{BarReadBack};
 ghost use Rattle.pad_record.specs.Promise.{BarSaved, BarErased};
@@ -26,7 +25,7 @@ pub extern "C" fn pstp_pad_save(
     velocities: &[u8],
 ) -> Reply
     ensures { Replied counted_reply
-        (λ a. BarSaved (was pad) id length (was sounds) (was steps) (was velocities) a (left pad)) result }
+        (λ a. BarSaved pad.old id length sounds.now steps.now velocities.now a pad.new) result }
 {
     of_counted(pad_save(pad, id, length, sounds, steps, velocities))
 }
@@ -34,7 +33,7 @@ pub extern "C" fn pstp_pad_save(
 // first: how many hits the bar had; it is no longer held.
 #[unsafe(no_mangle)]
 pub extern "C" fn pstp_pad_erase(pad: &mut [u32], id: u32) -> Reply
-    ensures { Replied counted_reply (λ a. BarErased (was pad) id a (left pad)) result }
+    ensures { Replied counted_reply (λ a. BarErased pad.old id a pad.new) result }
 {
     of_counted(pad_erase(pad, id))
 }
@@ -49,7 +48,7 @@ pub extern "C" fn pstp_pad_read(
     velocities: &mut [u8],
 ) -> Reply
     ensures { Replied bar_read_reply
-        (λ a. BarReadBack (was pad) id (was sounds) (was steps) (was velocities) a (left sounds) (left steps) (left velocities)) result }
+        (λ a. BarReadBack pad.now id sounds.old steps.old velocities.old a sounds.new steps.new velocities.new) result }
 {
     of_bar_read(pad_read(pad, id, sounds, steps, velocities))
 }
@@ -57,7 +56,7 @@ pub extern "C" fn pstp_pad_read(
 // first: how many hits the bars have together, as stored; never refused.
 #[unsafe(no_mangle)]
 pub extern "C" fn pstp_pad_hits(pad: &[u32]) -> Reply
-    ensures { result ≡ hits_reply (pad_hits (was pad)) }
+    ensures { result ≡ hits_reply (pad_hits pad.now) }
 {
     of_hits(pad_hits(pad))
 }
@@ -65,7 +64,7 @@ pub extern "C" fn pstp_pad_hits(pad: &[u32]) -> Reply
 // first: how many bytes were written: the bars as a segment, at the slice's front.
 #[unsafe(no_mangle)]
 pub extern "C" fn pstp_pad_write(pad: &[u32], text: &[u8], ends: &[u32], out: &mut [u8]) -> Reply
-    ensures { Replied written_reply (λ a. PadWritten (was pad) (was text) (was ends) (was out) a (left out)) result }
+    ensures { Replied written_reply (λ a. PadWritten pad.now text.now ends.now out.old a out.new) result }
 {
     of_written(pad_write(pad, text, ends, out))
 }

@@ -1,6 +1,5 @@
 // Open and the read calls.
 ghost use Rattle.std.specs.Prelude.{◌≡◌};
-ghost use Rattle.common.specs.Slices.{was, left};
 ghost use Rattle.segment.specs.Opening.{open_segment};
 ghost use Rattle.calls.specs.Replies.{opened, length_answer, df_answer};
 ghost use Rattle.calls.specs.Reads.{document_len, df as df_of};
@@ -19,7 +18,7 @@ use segment::ids::DocId;
 // first: documents; second: terms.
 #[unsafe(no_mangle)]
 pub extern "C" fn pstp_open(bytes: &[u8]) -> Reply
-    ensures { result ≡ opened_reply (opened (open_segment (was bytes))) }
+    ensures { result ≡ opened_reply (opened (open_segment bytes.now)) }
 {
     of_opened(open(bytes))
 }
@@ -27,7 +26,7 @@ pub extern "C" fn pstp_open(bytes: &[u8]) -> Reply
 // first: how many documents; their ids and lengths in two buffers.
 #[unsafe(no_mangle)]
 pub extern "C" fn pstp_document_lengths(bytes: &[u8], ids: &mut [u32], lengths: &mut [u32]) -> Reply
-    ensures { Replied counted_reply (λ a. LengthsAnswered (was bytes) (was ids) (was lengths) a (left ids) (left lengths)) result }
+    ensures { Replied counted_reply (λ a. LengthsAnswered bytes.now ids.old lengths.old a ids.new lengths.new) result }
 {
     of_counted(document_lengths(bytes, ids, lengths))
 }
@@ -35,7 +34,7 @@ pub extern "C" fn pstp_document_lengths(bytes: &[u8], ids: &mut [u32], lengths: 
 // first: 1, and second: the document's length; 0 and 0 where it is unknown.
 #[unsafe(no_mangle)]
 pub extern "C" fn pstp_document_len(bytes: &[u8], id: u32) -> Reply
-    ensures { result ≡ length_reply (length_answer (document_len (was bytes) id)) }
+    ensures { result ≡ length_reply (length_answer (document_len bytes.now id)) }
 {
     of_length(document_len(bytes, DocId(id)))
 }
@@ -43,7 +42,7 @@ pub extern "C" fn pstp_document_len(bytes: &[u8], id: u32) -> Reply
 // first: the number of documents that contain the term, as the directory has it; 0 for an unknown term.
 #[unsafe(no_mangle)]
 pub extern "C" fn pstp_df(bytes: &[u8], name: &[u8]) -> Reply
-    ensures { result ≡ frequency_reply (df_answer (df_of (was bytes) (was name))) }
+    ensures { result ≡ frequency_reply (df_answer (df_of bytes.now name.now)) }
 {
     of_doc_freq(df(bytes, name))
 }
@@ -51,7 +50,7 @@ pub extern "C" fn pstp_df(bytes: &[u8], name: &[u8]) -> Reply
 // first: how many documents; their ids, rising.
 #[unsafe(no_mangle)]
 pub extern "C" fn pstp_docs_with_term(bytes: &[u8], name: &[u8], ids: &mut [u32]) -> Reply
-    ensures { Replied counted_reply (λ a. DocsAnswered (was bytes) (was name) (was ids) a (left ids)) result }
+    ensures { Replied counted_reply (λ a. DocsAnswered bytes.now name.now ids.old a ids.new) result }
 {
     of_counted(docs_with_term(bytes, name, ids))
 }
@@ -65,8 +64,8 @@ pub extern "C" fn pstp_term_postings(
     counts: &mut [u32],
     places: &mut [u32],
 ) -> Reply
-    ensures { Replied listed_reply (λ a. PostingsAnswered (was bytes) (was name) (was ids) (was counts) (was places) a (left ids)
-        (left counts) (left places)) result }
+    ensures { Replied listed_reply (λ a. PostingsAnswered bytes.now name.now ids.old counts.old places.old a ids.new
+        counts.new places.new) result }
 {
     of_listed(term_postings(bytes, name, ids, counts, places))
 }
@@ -74,7 +73,7 @@ pub extern "C" fn pstp_term_postings(
 // first: how many positions the term has in one document; the positions, rising.
 #[unsafe(no_mangle)]
 pub extern "C" fn pstp_positions(bytes: &[u8], name: &[u8], id: u32, places: &mut [u32]) -> Reply
-    ensures { Replied counted_reply (λ a. PositionsAnswered (was bytes) (was name) id (was places) a (left places)) result }
+    ensures { Replied counted_reply (λ a. PositionsAnswered bytes.now name.now id places.old a places.new) result }
 {
     of_counted(positions(bytes, name, DocId(id), places))
 }

@@ -1,5 +1,4 @@
 // The writer over records, id and length. first: how many bytes were written.
-ghost use Rattle.common.specs.Slices.{was, left};
 ghost use Rattle.write_records.specs.Promise.{taken_apart, WroteRecords};
 ghost use Rattle.c_reply.specs.Replies.{Replied, written_reply};
 
@@ -23,8 +22,8 @@ pub extern "C" fn pstp_write_positional_segment_records(
     out: &mut [u8],
 ) -> Reply
     ensures { Replied written_reply (λ a. WroteRecords
-        (taken_apart (was documents) (was text) (was ends) (was posting_counts) (was posting_ids) (was position_counts)
-        (was positions)) (was documents) (was ids) (was lengths) (was out) a (left documents) (left ids) (left lengths) (left out)) result }
+        (taken_apart documents.old text.now ends.now posting_counts.now posting_ids.now position_counts.now
+        positions.now) documents.old ids.old lengths.old out.old a documents.new ids.new lengths.new out.new) result }
 {
     of_written(write_positional_segment_records(
         documents,

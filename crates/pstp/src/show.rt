@@ -1,5 +1,4 @@
 // A bar on paper.
-ghost use Rattle.common.specs.Slices.{was, left};
 ghost use Rattle.show_sheet.specs.Promise.{SheetAnswered};
 ghost use Rattle.c_reply.specs.Replies.{Replied, counted_reply};
 
@@ -10,7 +9,7 @@ use show_sheet::sheet::bar_sheet;
 // first: how many bytes the sheet has; they are at the front of the buffer.
 #[unsafe(no_mangle)]
 pub extern "C" fn pstp_bar_sheet(bytes: &[u8], id: u32, out: &mut [u8]) -> Reply
-    ensures { Replied counted_reply (λ a. SheetAnswered (was bytes) id (was out) a (left out)) result }
+    ensures { Replied counted_reply (λ a. SheetAnswered bytes.now id out.old a out.new) result }
 {
     of_counted(bar_sheet(bytes, DocId(id), out))
 }

@@ -1,5 +1,4 @@
 // The writer. first: how many bytes were written.
-ghost use Rattle.common.specs.Slices.{was, left};
 ghost use Rattle.calls.specs.Given.{given_lists};
 ghost use Rattle.write_segment.specs.Promise.{Wrote};
 ghost use Rattle.c_reply.specs.Replies.{Replied, written_reply};
@@ -21,7 +20,7 @@ pub extern "C" fn pstp_write_positional_segment(
     out: &mut [u8],
 ) -> Reply
     ensures { Replied written_reply (λ a. Wrote
-        (given_lists ids lengths text ends posting_counts posting_ids position_counts positions) (was out) a (left out)) result }
+        (given_lists ids lengths text ends posting_counts posting_ids position_counts positions) out.old a out.new) result }
 {
     of_written(write_positional_segment(
         ids,

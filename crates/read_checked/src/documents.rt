@@ -1,5 +1,4 @@
 // The length of a document, by a handle.
-ghost use Rattle.common.specs.Slices.{was};
 ghost use Rattle.read_checked.specs.Promise.{LengthChecked};
 
 use handle::handle::{Handle, usable};
@@ -10,7 +9,7 @@ use segment::replies::Length;
 
 // The length of one document, or that it is unknown: the metadata is walked.
 pub fn document_len_checked(bytes: &[u8], h: Handle, id: DocId) -> Length
-    ensures { LengthChecked (was bytes) h id.0 result }
+    ensures { LengthChecked bytes.now h id.0 result }
 {
     if !usable(bytes, h) {
         return document_len(bytes, id);

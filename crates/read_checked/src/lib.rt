@@ -5,6 +5,8 @@
 //   terms       df_checked, docs_with_term_checked
 //   postings    term_postings_checked, positions_checked
 // specs/Promise.antt says what they promise: with the bytes' own handle the same as the plain calls, with any other what they leave alone.
+#![tactic(auto)]
+
 pub mod documents;
 pub mod named;
 pub mod postings;

@@ -1,5 +1,4 @@
 // The list of a name, by a handle.
-ghost use Rattle.common.specs.Slices.{was};
 ghost use Rattle.handle.specs.Handles.{Usable};
 ghost use Rattle.read_checked.specs.Steps.{ListNamed};
 
@@ -27,7 +26,7 @@ pub enum Named {
 // The name checked, its list found. A list of a segment that was only opened is decoded here; at level 2 every list is known to decode.
 pub fn named_list(bytes: &[u8], h: Handle, name: &[u8]) -> Named
     requires { Usable bytes.now h }
-    ensures { ListNamed (was bytes) h (was name) result }
+    ensures { ListNamed bytes.now h name.now result }
 {
     if let Checked::Refused(x) = check_name(name) {
         return Named::Refused(x);

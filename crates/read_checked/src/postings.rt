@@ -1,7 +1,6 @@
 // The calls on terms that list positions, by a handle.
 ghost use Rattle.std.specs.Prelude.{◌≡◌, drop};
 ghost use Rattle.std.proofs.Math.Option.{none};
-ghost use Rattle.common.specs.Slices.{was, left};
 ghost use Rattle.read_cursors.specs.Held.{held_postings};
 ghost use Rattle.read_checked.specs.Promise.{PostingsChecked, PositionsChecked};
 ghost use Rattle.read_checked.specs.Steps.{counts_in};
@@ -18,7 +17,7 @@ use segment::replies::{Counted, TermTotals, Totals};
 
 // How many positions the postings of a list have, by their counts. At most 2^32 - 1 postings of at most 2^32 - 1: the sum fits.
 fn count_positions(bytes: &[u8], at: usize, df: u32) -> usize
-    ensures { result ≡ counts_in (held_postings df none (drop at (was bytes))) }
+    ensures { result ≡ counts_in (held_postings df none (drop at bytes.now)) }
 {
     let mut c = Postings::start(bytes, at, df);
     let mut total: usize = 0;
@@ -38,8 +37,8 @@ pub fn term_postings_checked(
     counts: &mut [u32],
     positions: &mut [u32],
 ) -> TermTotals
-    ensures { PostingsChecked (was bytes) h (was name) (was ids) (was counts) (was positions) result (left ids) (left counts)
-        (left positions) }
+    ensures { PostingsChecked bytes.now h name.now ids.old counts.old positions.old result ids.new counts.new
+        positions.new }
 {
     if !usable(bytes, h) {
         return term_postings(bytes, name, ids, counts, positions);
@@ -82,7 +81,7 @@ pub fn positions_checked(
     id: DocId,
     out: &mut [u32],
 ) -> Counted
-    ensures { PositionsChecked (was bytes) h (was name) id.0 (was out) result (left out) }
+    ensures { PositionsChecked bytes.now h name.now id.0 out.old result out.new }
 {
     if !usable(bytes, h) {
         return positions(bytes, name, id, out);

@@ -1,5 +1,4 @@
 // The calls on terms and on their documents, by a handle.
-ghost use Rattle.common.specs.Slices.{was, left};
 ghost use Rattle.read_checked.specs.Promise.{DfChecked, DocsChecked};
 
 use crate::named::{Named, named_list};
@@ -13,7 +12,7 @@ use segment::replies::{Counted, DocFreq};
 
 // How many documents have a term, as the directory stores it; 0 for an unknown term. No list is decoded at either level.
 pub fn df_checked(bytes: &[u8], h: Handle, name: &[u8]) -> DocFreq
-    ensures { DfChecked (was bytes) h (was name) result }
+    ensures { DfChecked bytes.now h name.now result }
 {
     if !usable(bytes, h) {
         return df(bytes, name);
@@ -29,7 +28,7 @@ pub fn df_checked(bytes: &[u8], h: Handle, name: &[u8]) -> DocFreq
 
 // How many documents have a term, and their ids in rising order; none for an unknown term.
 pub fn docs_with_term_checked(bytes: &[u8], h: Handle, name: &[u8], ids: &mut [u32]) -> Counted
-    ensures { DocsChecked (was bytes) h (was name) (was ids) result (left ids) }
+    ensures { DocsChecked bytes.now h name.now ids.old result ids.new }
 {
     if !usable(bytes, h) {
         return docs_with_term(bytes, name, ids);

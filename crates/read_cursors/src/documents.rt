@@ -1,7 +1,6 @@
 // Document metadata: per document an id gap and a length.
 ghost use Rattle.std.specs.Prelude.{◌≡◌, ◌-◌, drop, eqb};
 ghost use Rattle.std.proofs.Math.Option.{none};
-ghost use Rattle.common.specs.Slices.{was};
 ghost use Rattle.segment.specs.Metadata.{read_document};
 ghost use Rattle.segment.specs.Steps.{earlier};
 ghost use Rattle.read_cursors.specs.Steps.{document_means, ShortRead, documents_from};
@@ -40,7 +39,7 @@ pub enum ShortDocument {
 
 // The document at the reader, number by number: both numbers, overflow, order. The first one's gap is its id.
 fn read_document_each(meta: &[u8], from: Reader, index: u32, previous: DocId) -> DocumentStep
-    ensures { document_means (was meta) result ≡ read_document index (earlier (eqb index 0) previous.0) (drop from.at (was meta)) }
+    ensures { document_means meta.now result ≡ read_document index (earlier (eqb index 0) previous.0) (drop from.at meta.now) }
 {
     let Decoded::Value(gap) = from.decode_u32(meta) else {
         return DocumentStep::Refused(invalid_varint(DOCUMENT_METADATA, index as u64));
@@ -73,7 +72,7 @@ fn read_document_each(meta: &[u8], from: Reader, index: u32, previous: DocId) ->
 
 // The document at the reader, where its gap and its length take a byte each and it is sure to be accepted.
 fn short_document(meta: &[u8], from: Reader, index: u32, previous: DocId) -> ShortDocument
-    ensures { ShortRead (was meta) (read_document index (earlier (eqb index 0) previous.0) (drop from.at (was meta))) result }
+    ensures { ShortRead meta.now (read_document index (earlier (eqb index 0) previous.0) (drop from.at meta.now)) result }
 {
     let at = from.at;
     if all_single(meta, at, 2) {
@@ -96,7 +95,7 @@ fn short_document(meta: &[u8], from: Reader, index: u32, previous: DocId) -> Sho
 
 // The document at the reader: at once where it is short, else number by number.
 pub fn read_document(meta: &[u8], from: Reader, index: u32, previous: DocId) -> DocumentStep
-    ensures { document_means (was meta) result ≡ read_document index (earlier (eqb index 0) previous.0) (drop from.at (was meta)) }
+    ensures { document_means meta.now result ≡ read_document index (earlier (eqb index 0) previous.0) (drop from.at meta.now) }
 {
     match short_document(meta, from, index, previous) {
         ShortDocument::Sure(d) => DocumentStep::Next(d),
@@ -117,7 +116,7 @@ pub struct Documents {
 impl Documents {
     // The cursor at the first of `remaining` documents from the reader on; none remains if that one is refused.
     fn enter(meta: &[u8], from: Reader, remaining: u32, index: u32, previous: DocId) -> Documents
-        ensures { EnteredDocuments (was meta) remaining (earlier (eqb index 0) previous.0) from.at result }
+        ensures { EnteredDocuments meta.now remaining (earlier (eqb index 0) previous.0) from.at result }
     {
         if remaining == 0 {
             return Documents {
@@ -149,14 +148,14 @@ impl Documents {
 
     // The cursor at the first document.
     pub fn start(meta: &[u8], count: u32) -> Documents
-        ensures { documents_from (was meta) result ≡ held_documents count none (was meta) }
+        ensures { documents_from meta.now result ≡ held_documents count none meta.now }
     {
         Documents::enter(meta, Reader { at: 0 }, count, 0, DocId(0))
     }
 
     // The cursor advanced by one document: at once where the next one is short.
     pub fn advance(self, meta: &[u8]) -> Documents
-        ensures { AdvancedDocuments (was meta) self result }
+        ensures { AdvancedDocuments meta.now self result }
     {
         if self.remaining == 0 {
             return self;
@@ -182,7 +181,7 @@ impl Documents {
 
     // The cursor at the first document from here whose id is at least `id`.
     pub fn seek(self, meta: &[u8], id: DocId) -> Documents
-        ensures { SoughtDocument (was meta) id.0 self result }
+        ensures { SoughtDocument meta.now id.0 self result }
     {
         let mut c = self;
         while 0 < c.remaining {

@@ -8,6 +8,8 @@
 //   positions   a cursor over the positions of a posting
 // specs/Held.antt defines what bytes hold element by element, specs/Steps.antt what a cursor has still to walk, specs/Singles.antt what is
 // told by one word.
+#![tactic(auto)]
+
 pub mod documents;
 pub mod positions;
 pub mod postings;

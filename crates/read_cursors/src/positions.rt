@@ -1,7 +1,6 @@
 // A cursor over the positions of a posting, as postings.rt has one over the postings of a list.
 ghost use Rattle.std.specs.Prelude.{◌≡◌, drop};
 ghost use Rattle.std.proofs.Math.Option.{none};
-ghost use Rattle.common.specs.Slices.{was};
 ghost use Rattle.segment.specs.Steps.{earlier};
 ghost use Rattle.read_cursors.specs.Held.{held_positions};
 ghost use Rattle.read_cursors.specs.Steps.{positions_from, EnteredPositions, AdvancedPositions, SoughtPosition};
@@ -29,7 +28,7 @@ impl Positions {
         first: bool,
         previous: TokenPos,
     ) -> Positions
-        ensures { EnteredPositions (was bytes) remaining (earlier first previous.0) from.at result }
+        ensures { EnteredPositions bytes.now remaining (earlier first previous.0) from.at result }
     {
         let none = Positions {
             at: 0,
@@ -63,7 +62,7 @@ impl Positions {
 
     // The cursor at the first position of the posting that a cursor is at.
     pub fn start(bytes: &[u8], posting: Postings) -> Positions
-        ensures { positions_from (was bytes) result ≡ held_positions posting.count none (drop posting.at (was bytes)) }
+        ensures { positions_from bytes.now result ≡ held_positions posting.count none (drop posting.at bytes.now) }
     {
         Positions::enter(
             bytes,
@@ -76,7 +75,7 @@ impl Positions {
 
     // The cursor advanced by one position.
     pub fn advance(self, bytes: &[u8]) -> Positions
-        ensures { AdvancedPositions (was bytes) self result }
+        ensures { AdvancedPositions bytes.now self result }
     {
         if self.remaining == 0 {
             return self;
@@ -92,7 +91,7 @@ impl Positions {
 
     // The cursor at the first position from here that is at least `target`.
     pub fn seek(self, bytes: &[u8], target: u64) -> Positions
-        ensures { SoughtPosition (was bytes) target self result }
+        ensures { SoughtPosition bytes.now target self result }
     {
         let mut c = self;
         while 0 < c.remaining {

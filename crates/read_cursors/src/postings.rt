@@ -1,7 +1,6 @@
 // A cursor over the postings of a list. It demands nothing of the bytes: where the next posting would be refused, none remains.
 ghost use Rattle.std.specs.Prelude.{◌≡◌, drop};
 ghost use Rattle.std.proofs.Math.Option.{none};
-ghost use Rattle.common.specs.Slices.{was};
 ghost use Rattle.segment.specs.Steps.{earlier};
 ghost use Rattle.read_cursors.specs.Held.{held_postings};
 ghost use Rattle.read_cursors.specs.Steps.{postings_from, EnteredPostings, AdvancedPostings, ShortAdvanced, SoughtPosting};
@@ -33,7 +32,7 @@ pub enum ShortPosting {
 impl Postings {
     // The cursor at the first of `remaining` postings from the reader on; none remains if that one is refused.
     fn enter(bytes: &[u8], from: Reader, remaining: u32, first: bool, previous: DocId) -> Postings
-        ensures { EnteredPostings (was bytes) remaining (earlier first previous.0) from.at result }
+        ensures { EnteredPostings bytes.now remaining (earlier first previous.0) from.at result }
     {
         let none = Postings {
             at: 0,
@@ -73,14 +72,14 @@ impl Postings {
 
     // The cursor at the first of `df` postings from offset `at` on.
     pub fn start(bytes: &[u8], at: usize, df: u32) -> Postings
-        ensures { postings_from (was bytes) result ≡ held_postings df none (drop at (was bytes)) }
+        ensures { postings_from bytes.now result ≡ held_postings df none (drop at bytes.now) }
     {
         Postings::enter(bytes, Reader { at: at }, df, true, DocId(0))
     }
 
     // The cursor advanced by one posting, number by number; its positions are skipped.
     fn advance_each(self, bytes: &[u8]) -> Postings
-        ensures { AdvancedPostings (was bytes) self result }
+        ensures { AdvancedPostings bytes.now self result }
     {
         if self.remaining == 0 {
             return self;
@@ -92,7 +91,7 @@ impl Postings {
     // The cursor advanced by one posting, where its positions and the next posting's gap and count take a byte each, and that posting is
     // sure to be accepted.
     fn advance_short(self, bytes: &[u8]) -> ShortPosting
-        ensures { ShortAdvanced (was bytes) self result }
+        ensures { ShortAdvanced bytes.now self result }
     {
         let n = long(self.count);
         if all_single(bytes, self.at, n + 2) {
@@ -118,7 +117,7 @@ impl Postings {
 
     // The cursor advanced by one posting: at once where all is short, else number by number.
     pub fn advance(self, bytes: &[u8]) -> Postings
-        ensures { AdvancedPostings (was bytes) self result }
+        ensures { AdvancedPostings bytes.now self result }
     {
         match self.advance_short(bytes) {
             ShortPosting::Sure(next) => next,
@@ -128,7 +127,7 @@ impl Postings {
 
     // The cursor at the first posting from here whose document is at least `target`.
     pub fn seek(self, bytes: &[u8], target: u64) -> Postings
-        ensures { SoughtPosting (was bytes) target self result }
+        ensures { SoughtPosting bytes.now target self result }
     {
         let mut c = self;
         while 0 < c.remaining {

@@ -1,6 +1,5 @@
 // Numbers of one byte each, told by one word. The cursors try this first; whatever it is not sure of, they read number by number.
 ghost use Rattle.std.specs.Prelude.{◌≡◌, true};
-ghost use Rattle.common.specs.Slices.{was};
 ghost use Rattle.read_cursors.specs.Singles.{Singles};
 
 use segment::fixed::read_usize_at;
@@ -8,7 +7,7 @@ use segment::fixed::read_usize_at;
 // Whether the next `count` numbers are sure to take a byte each: one to eight of them, eight bytes are there, and in the word that these
 // make no byte of theirs has its high bit set.
 pub fn all_single(list: &[u8], at: usize, count: usize) -> bool
-    ensures { result ≡ true → Singles (was list) at count }
+    ensures { result ≡ true → Singles list.now at count }
 {
     if count == 0 {
         return false;

@@ -1,6 +1,5 @@
 // Values that are stored as gaps and rise: posting ids and positions. The first gap is the value itself.
 ghost use Rattle.std.specs.Prelude.{◌≡◌, drop};
-ghost use Rattle.common.specs.Slices.{was};
 ghost use Rattle.segment.specs.Refusals.{refusal, invalid_layout};
 ghost use Rattle.segment.specs.Postings.{read_value};
 ghost use Rattle.segment.specs.Steps.{earlier};
@@ -30,8 +29,8 @@ pub fn read_value(
     order: u32,
     index: u64,
 ) -> ValueStep
-    ensures { value_means (was list) result ≡ read_value (refusal overflow 0 index) (invalid_layout order) index
-        (earlier first previous) (drop from.at (was list)) }
+    ensures { value_means list.now result ≡ read_value (refusal overflow 0 index) (invalid_layout order) index
+        (earlier first previous) (drop from.at list.now) }
 {
     let Decoded::Value(gap) = from.decode_u32(list) else {
         return ValueStep::Refused(invalid_varint(POSTINGS, index));
@@ -59,7 +58,7 @@ pub fn read_value(
 
 // The reader after `count` numbers, or at the first malformed one, number by number.
 fn skip_each(list: &[u8], from: Reader, count: u32) -> Reader
-    ensures { drop result.at (was list) ≡ skipped count (drop from.at (was list)) }
+    ensures { drop result.at list.now ≡ skipped count (drop from.at list.now) }
 {
     let mut reader = from;
     let mut i: u32 = 0;
@@ -75,7 +74,7 @@ fn skip_each(list: &[u8], from: Reader, count: u32) -> Reader
 
 // The reader after `count` numbers, or at the first malformed one: at once where they take a byte each.
 pub fn skip(list: &[u8], from: Reader, count: u32) -> Reader
-    ensures { drop result.at (was list) ≡ skipped count (drop from.at (was list)) }
+    ensures { drop result.at list.now ≡ skipped count (drop from.at list.now) }
 {
     let n = long(count);
     if all_single(list, from.at, n) {

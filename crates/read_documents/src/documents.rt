@@ -1,7 +1,6 @@
 // The calls on documents: no list is decoded.
 ghost use Rattle.std.specs.Prelude.{◌≡◌, ◌≤◌, length};
 ghost use Rattle.std.proofs.Math.Option.{none};
-ghost use Rattle.common.specs.Slices.{was, left};
 ghost use Rattle.read_cursors.specs.Held.{held_documents};
 ghost use Rattle.calls.specs.Reads.{document_len};
 ghost use Rattle.calls.specs.Replies.{length_answer};
@@ -20,7 +19,7 @@ use segment::replies::{Counted, Length};
 fn fill_documents(meta: &[u8], count: u32, ids: &mut [u32], lengths: &mut [u32])
     requires { (length (held_documents count none meta.now) ≤ length ids.old)
         × (length (held_documents count none meta.now) ≤ length lengths.old) }
-    ensures { FilledDocuments (held_documents count none (was meta)) (was ids) (was lengths) (left ids) (left lengths) }
+    ensures { FilledDocuments (held_documents count none meta.now) ids.old lengths.old ids.new lengths.new }
 {
     let mut c = Documents::start(meta, count);
     let mut i: usize = 0;
@@ -35,7 +34,7 @@ fn fill_documents(meta: &[u8], count: u32, ids: &mut [u32], lengths: &mut [u32])
 
 // How many documents the segment has, their ids and lengths in rising order of ids.
 pub fn document_lengths(bytes: &[u8], ids: &mut [u32], lengths: &mut [u32]) -> Counted
-    ensures { LengthsAnswered (was bytes) (was ids) (was lengths) result (left ids) (left lengths) }
+    ensures { LengthsAnswered bytes.now ids.old lengths.old result ids.new lengths.new }
 {
     let at = match open_layout(bytes) {
         Opening::Layout(at) => at,
@@ -58,7 +57,7 @@ pub fn document_lengths(bytes: &[u8], ids: &mut [u32], lengths: &mut [u32]) -> C
 
 // The length of one document, or that it is unknown.
 pub fn document_len(bytes: &[u8], id: DocId) -> Length
-    ensures { result ≡ length_answer (document_len (was bytes) id.0) }
+    ensures { result ≡ length_answer (document_len bytes.now id.0) }
 {
     let at = match open_layout(bytes) {
         Opening::Layout(at) => at,

@@ -2,7 +2,6 @@
 // posting costs a search.
 ghost use Rattle.std.specs.Prelude.{◌≡◌, cond, eqb, drop};
 ghost use Rattle.std.proofs.Math.Option.{none};
-ghost use Rattle.common.specs.Slices.{was};
 ghost use Rattle.segment.specs.Postings.{all_postings};
 ghost use Rattle.segment.specs.Steps.{earlier};
 ghost use Rattle.read_lists.specs.Steps.{WalkedPositions, WalkedHead, Marks, tallied, tallied_in};
@@ -28,7 +27,7 @@ pub enum PositionsStep {
 
 // All positions of a posting: per position the number, overflow, order, length. `place` is the posting's index in its list.
 fn read_positions(list: &[u8], from: Reader, count: u32, place: u32, len: u32) -> PositionsStep
-    ensures { WalkedPositions (was list) count place len from.at result }
+    ensures { WalkedPositions list.now count place len from.at result }
 {
     let mut reader = from;
     let mut previous = TokenPos(0);
@@ -84,7 +83,7 @@ fn read_head(
     meta: &[u8],
     documents: Documents,
 ) -> HeadStep
-    ensures { WalkedHead (was list) from.at place (earlier (eqb place 0) previous.0) (was meta) documents result }
+    ensures { WalkedHead list.now from.at place (earlier (eqb place 0) previous.0) meta.now documents result }
 {
     let index = place as u64;
     let gap = match read_value(
@@ -132,7 +131,7 @@ pub enum Tally {
 
 // All postings of a list, then trailing bytes; answers the number of positions.
 pub fn decode_postings_bytes(list: &[u8], df: u32, meta: &[u8], documents: u32) -> Tally
-    ensures { result ≡ tallied (all_postings df (held_documents documents none (was meta)) (was list)) }
+    ensures { result ≡ tallied (all_postings df (held_documents documents none meta.now) list.now) }
 {
     let mut known = Documents::start(meta, documents);
     let mut reader = Reader { at: 0 };
@@ -189,7 +188,7 @@ pub fn decode_postings_in(
     ids: &[u32; 128],
 ) -> Tally
     requires { Marks meta.now (held_documents documents none meta.now) marks }
-    ensures { result ≡ tallied_in doc.0 (all_postings df (held_documents documents none (was meta)) (was list)) }
+    ensures { result ≡ tallied_in doc.0 (all_postings df (held_documents documents none meta.now) list.now) }
 {
     let mut known = Documents::start(meta, documents);
     let mut reader = Reader { at: 0 };

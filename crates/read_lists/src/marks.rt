@@ -2,7 +2,6 @@
 // each walk the metadata from its first document.
 ghost use Rattle.std.specs.Prelude.{◌≡◌, ◌<◌};
 ghost use Rattle.std.proofs.Math.Option.{none};
-ghost use Rattle.common.specs.Slices.{was};
 ghost use Rattle.segment.specs.Steps.{earlier};
 ghost use Rattle.read_cursors.specs.Held.{held_documents};
 ghost use Rattle.read_lists.specs.Steps.{Marks, Peeked, nearer_of};
@@ -30,7 +29,7 @@ fn slot(j: u32, count: u32) -> usize
 
 // 128 cursors spread over the metadata: each at a document of it.
 pub fn mark_documents(meta: &[u8], count: u32) -> [Documents; 128]
-    ensures { Marks (was meta) (held_documents count none (was meta)) result }
+    ensures { Marks meta.now (held_documents count none meta.now) result }
 {
     let first = Documents::start(meta, count);
     let mut marks = [first; 128];
@@ -88,7 +87,7 @@ pub fn place_for(ids: &[u32; 128], known: DocId, doc: u32) -> usize
 
 // The id of the posting at the reader, or 0 where it is refused: looked at before it is read, to choose a mark.
 pub fn peek(list: &[u8], from: Reader, first: bool, previous: u32) -> u32
-    ensures { Peeked (was list) (earlier first previous) from.at result }
+    ensures { Peeked list.now (earlier first previous) from.at result }
 {
     match read_value(
         list,

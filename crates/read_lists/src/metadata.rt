@@ -1,6 +1,5 @@
 // Document metadata, checked whole in document 01's order.
 ghost use Rattle.std.specs.Prelude.{◌≡◌, ◌-◌};
-ghost use Rattle.common.specs.Slices.{was};
 ghost use Rattle.segment.specs.Metadata.{metadata};
 ghost use Rattle.segment.specs.Steps.{checked};
 
@@ -12,7 +11,7 @@ use segment::refusal::{TRAILING_DOCUMENT_METADATA, invalid_layout};
 
 // The whole section checked: each document, then trailing bytes.
 pub fn decode_document_lengths(meta: &[u8], count: u32) -> Checked
-    ensures { result ≡ checked (metadata count (was meta)) }
+    ensures { result ≡ checked (metadata count meta.now) }
 {
     let mut reader = Reader { at: 0 };
     let mut previous = DocId(0);

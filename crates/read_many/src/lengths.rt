@@ -2,7 +2,6 @@
 // document, so what older blocks left in the table stays true, and nothing has to be cleared. An empty place reads as taken by document 0:
 // where the documents start with it, it is a block by itself.
 ghost use Rattle.std.specs.Prelude.{◌≡◌, ◌+◌, ◌*◌, ◌^◌};
-ghost use Rattle.common.specs.Slices.{was, left};
 ghost use Rattle.read_many.specs.Steps.{LengthTold, LengthKnown, BlockFilled};
 
 use common::widths::{long, wide};
@@ -28,7 +27,7 @@ fn length_in(entry: u64, doc: u32) -> u32
 
 // The length of a document if the table has it, else 0.
 pub fn length_of(table: &[u64; 1024], doc: u32) -> u32
-    ensures { LengthKnown (was table) doc result }
+    ensures { LengthKnown table.now doc result }
 {
     length_in(table[long(doc % 1024)], doc)
 }
@@ -36,7 +35,7 @@ pub fn length_of(table: &[u64; 1024], doc: u32) -> u32
 // The documents from a cursor on put into the table, up to the first whose place one of them has already (document 0 has the empty ones
 // too); the cursor at that one.
 pub fn fill_block(meta: &[u8], from: Documents, table: &mut [u64; 1024]) -> Documents
-    ensures { BlockFilled (was meta) from result (was table) (left table) }
+    ensures { BlockFilled meta.now from result table.old table.new }
 {
     let first = from.id;
     let mut c = from;

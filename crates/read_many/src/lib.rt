@@ -6,6 +6,8 @@
 //   postings             one posting of a list passed
 //   lengths              the lengths of a block of documents, by id
 //   lists                all lists through one block after the other
+#![tactic(auto)]
+
 pub mod lengths;
 pub mod lists;
 pub mod postings;

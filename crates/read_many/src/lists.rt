@@ -3,7 +3,6 @@
 // the table knows its document, and the table knows only documents of the metadata.
 ghost use Rattle.std.specs.Prelude.{◌≡◌, true, ◌≤◌, length};
 ghost use Rattle.std.proofs.Math.Option.{none};
-ghost use Rattle.common.specs.Slices.{was, left};
 ghost use Rattle.read_cursors.specs.Held.{held_documents};
 ghost use Rattle.read_many.specs.Promise.{ListsSure};
 ghost use Rattle.read_many.specs.Steps.{Walked, Walkable, ListsWalked, ListsEntered, Ended};
@@ -16,7 +15,7 @@ use read_cursors::documents::Documents;
 
 // One list taken through the postings whose documents are below the limit, as far as it is surely in order.
 fn walk_list(list: &[u8], from: Cursor, table: &[u64; 1024], limit: u64) -> Cursor
-    ensures { Walked (was list) (was table) from result }
+    ensures { Walked list.now table.now from result }
 {
     let mut c = from;
     while 0 < c.remaining {
@@ -57,8 +56,8 @@ fn walk_lists(
     limit: u64,
 ) -> u64
     requires { Walkable bytes.now m end.now at.old remaining.old doc.old }
-    ensures { ListsWalked (was bytes) (was end) (was table)
-        (was at) (was remaining) (was doc) (left at) (left remaining) (left doc) }
+    ensures { ListsWalked bytes.now end.now table.now
+        at.old remaining.old doc.old at.new remaining.new doc.new }
 {
     let mut least: u64 = 4294967296;
     let mut k: usize = 0;
@@ -97,8 +96,8 @@ fn walk_waiting(
     waits: u64,
 ) -> u64
     requires { Walkable bytes.now m end.now at.old remaining.old doc.old }
-    ensures { ListsWalked (was bytes) (was end) (was table)
-        (was at) (was remaining) (was doc) (left at) (left remaining) (left doc) }
+    ensures { ListsWalked bytes.now end.now table.now
+        at.old remaining.old doc.old at.new remaining.new doc.new }
 {
     if limit <= waits {
         return waits;
@@ -116,7 +115,7 @@ fn enter_lists(
     doc: &mut [u32; 128],
 ) -> bool
     requires { (m ≤ 128) × (length at.old ≡ 128) × (length doc.old ≡ 128) }
-    ensures { ListsEntered (was bytes) m (was end) (was remaining) (was at) (left at) (left doc) result }
+    ensures { ListsEntered bytes.now m end.now remaining.now at.old at.new doc.new result }
 {
     let mut k: usize = 0;
     while k < m {
@@ -142,7 +141,7 @@ fn enter_lists(
 // Whether no posting of any list remains, and no byte behind the last.
 fn all_ended(m: usize, at: &[usize; 128], end: &[usize; 128], remaining: &[u32; 128]) -> bool
     requires { m ≤ 128 }
-    ensures { result ≡ true → Ended m (was end) (was at) (was remaining) }
+    ensures { result ≡ true → Ended m end.now at.now remaining.now }
 {
     let mut k: usize = 0;
     while k < m {
@@ -171,8 +170,8 @@ fn walk_blocks(
 ) -> bool
     requires { BlocksWalkable (held_documents documents none meta.now) bytes.now m end.now
         at.old remaining.old doc.old table.old }
-    ensures { BlocksWalked (held_documents documents none (was meta)) (was bytes) m (was end)
-        (was at) (was remaining) (was doc) (left at) (left remaining) (left doc) result }
+    ensures { BlocksWalked (held_documents documents none meta.now) bytes.now m end.now
+        at.old remaining.old doc.old at.new remaining.new doc.new result }
 {
     let mut here = Documents::start(meta, documents);
     let mut waits: u64 = 0;
@@ -199,8 +198,8 @@ pub fn lists_sure(
     documents: u32,
 ) -> bool
     requires { (length at.old ≡ 128) × (length remaining.old ≡ 128) }
-    ensures { ListsSure (held_documents documents none (was meta)) (was bytes) m
-        (was at) (was end) (was remaining) (left at) (left remaining) result }
+    ensures { ListsSure (held_documents documents none meta.now) bytes.now m
+        at.old end.now remaining.old at.new remaining.new result }
 {
     if 128 < m {
         return false;

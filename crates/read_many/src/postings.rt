@@ -1,6 +1,5 @@
 // One posting of a list passed, number by number. What is not in order is not told apart: the refusal is for the crate read_lists to say.
 ghost use Rattle.std.specs.Prelude.{◌≡◌, ◌<◌, drop};
-ghost use Rattle.common.specs.Slices.{was};
 ghost use Rattle.leb128.specs.declared.varint.Decoded.TheVariants.{Value};
 ghost use Rattle.leb128.specs.Promise.{decoded_at};
 ghost use Rattle.read_many.specs.Steps.{Placed, Posted, Stepped};
@@ -21,7 +20,7 @@ fn no_number() -> Number
 
 // The number at an offset, and the reader past it; the reader at 0 where there is none. Most numbers have one byte: they are read here.
 pub fn number(list: &[u8], at: usize) -> Number
-    ensures { 0 < result.next.at → decoded_at (was list) at ≡ Value result }
+    ensures { 0 < result.next.at → decoded_at list.now at ≡ Value result }
 {
     if at < list.len() {
         let b = byte(list[at]);
@@ -41,7 +40,7 @@ pub fn number(list: &[u8], at: usize) -> Number
 
 // Past `count` position gaps of a posting in a document of length len; 0 where a number is missing or the positions are not in order.
 fn past_gaps(list: &[u8], at: usize, count: u32, len: u32) -> usize
-    ensures { 0 < result → Placed count len (drop at (was list)) (drop result (was list)) }
+    ensures { 0 < result → Placed count len (drop at list.now) (drop result list.now) }
 {
     let mut next = at;
     let mut last: u64 = 0;
@@ -69,7 +68,7 @@ fn past_gaps(list: &[u8], at: usize, count: u32, len: u32) -> usize
 
 // Past the number of positions of a posting and its positions; 0 where not sure.
 fn past_positions(list: &[u8], at: usize, len: u32) -> usize
-    ensures { 0 < result → Posted len (drop at (was list)) (drop result (was list)) }
+    ensures { 0 < result → Posted len (drop at list.now) (drop result list.now) }
 {
     let count = number(list, at);
     let first = count.next;
@@ -94,7 +93,7 @@ pub struct Cursor {
 // not sure.
 fn past_posting_each(list: &[u8], from: Cursor, len: u32) -> Cursor
     requires { 0 < from.remaining }
-    ensures { Stepped (was list) len from result }
+    ensures { Stepped list.now len from result }
 {
     let past = past_positions(list, from.at, len);
     if past == 0 {
@@ -128,7 +127,7 @@ fn past_posting_each(list: &[u8], from: Cursor, len: u32) -> Cursor
 // The cursor past one posting and the gap of the next, if the posting's document has this length; the same cursor where not sure.
 pub fn past_posting(list: &[u8], from: Cursor, len: u32) -> Cursor
     requires { 0 < from.remaining }
-    ensures { Stepped (was list) len from result }
+    ensures { Stepped list.now len from result }
 {
     if from.remaining == 1 {
         return past_posting_each(list, from, len);

@@ -1,7 +1,6 @@
 // Short postings, told by one word: most have few positions, and each of their numbers takes a byte. Whatever is not sure here is read
 // number by number.
 ghost use Rattle.std.specs.Prelude.{◌≡◌, ◌*◌, ◌^◌, ◌≤◌, ◌<◌};
-ghost use Rattle.common.specs.Slices.{was};
 ghost use Rattle.read_many.specs.Steps.{Short};
 
 use common::widths::long;
@@ -20,7 +19,7 @@ fn past_bytes(count: usize) -> usize
 // the first, the last position below the length, the next gap of one byte and above 0.
 // A byte below 128 that is above 0 has its high bit set when 127 is added. 256 is 1 modulo 255, so a word of few low bytes is their sum.
 pub fn short_posting(list: &[u8], at: usize, len: u32) -> usize
-    ensures { 0 < result → Short (was list) at len result }
+    ensures { 0 < result → Short list.now at len result }
 {
     if list.len() <= at {
         return 0;

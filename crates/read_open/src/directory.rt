@@ -1,7 +1,6 @@
 // The term directory: entries of 32 bytes, checked in document 01's order, and a term found by its name.
 ghost use Rattle.std.specs.Prelude.{◌≡◌, false, ◌↔◌, ◌+◌, ◌*◌, ◌≤◌, ◌<◌, length};
 ghost use Rattle.segment.specs.Records.{entry_size};
-ghost use Rattle.common.specs.Slices.{was};
 ghost use Rattle.segment.specs.Directory.{directory, read_list_range};
 ghost use Rattle.segment.specs.Steps.{order, checked};
 ghost use Rattle.read_open.specs.Steps.{InNames, follows_name, WalkedEntry, name_at, EntryInside, LocatedAny};
@@ -33,7 +32,7 @@ pub enum EntryStep {
 // Whether a name follows the one before it in the section; the first follows nothing.
 fn follows(names: &[u8], first: bool, previous: NameRange, name: &[u8]) -> bool
     requires { InNames previous names.now }
-    ensures { result ≡ follows_name (was names) first previous (was name) }
+    ensures { result ≡ follows_name names.now first previous name.now }
 {
     if first {
         return true;
@@ -46,7 +45,7 @@ fn follows(names: &[u8], first: bool, previous: NameRange, name: &[u8]) -> bool
 // The list's range lies in its section, and the entry has postings.
 fn check_list(entry: &[u8], lists: &[u8]) -> Checked
     requires { entry_size ≤ length entry.now }
-    ensures { result ≡ checked (read_list_range (was entry) (was lists)) }
+    ensures { result ≡ checked (read_list_range entry.now lists.now) }
 {
     match checked_range(
         read_usize_at(entry, 8),
@@ -73,7 +72,7 @@ fn check_entry(
     previous: NameRange,
 ) -> EntryStep
     requires { (entry_size ≤ length entry.now) × InNames previous names.now }
-    ensures { WalkedEntry first previous (was entry) (was names) (was lists) result }
+    ensures { WalkedEntry first previous entry.now names.now lists.now result }
 {
     let start = long(read_u32_at(entry, 0));
     let end = match checked_range(start, long(read_u32_at(entry, 4)), names.len(), TERM_BYTES) {
@@ -102,7 +101,7 @@ fn check_entry(
 
 // The whole section checked: its length, then each entry.
 pub fn decode_term_directory(dir: &[u8], names: &[u8], lists: &[u8], count: u32) -> Checked
-    ensures { result ≡ checked (directory count (was dir) (was names) (was lists)) }
+    ensures { result ≡ checked (directory count dir.now names.now lists.now) }
 {
     let terms = long(count);
     if dir.len() != terms * ENTRY_SIZE {
@@ -128,7 +127,7 @@ pub fn decode_term_directory(dir: &[u8], names: &[u8], lists: &[u8], count: u32)
 // Whether the name of entry `i` does not lie in the term bytes.
 fn entry_outside(dir: &[u8], names: &[u8], i: usize) -> bool
     requires { i * entry_size + entry_size ≤ length dir.now }
-    ensures { (result ≡ false) ↔ EntryInside (was dir) (was names) i }
+    ensures { (result ≡ false) ↔ EntryInside dir.now names.now i }
 {
     let at = i * ENTRY_SIZE;
     let start = long(read_u32_at(dir, at));
@@ -142,7 +141,7 @@ fn entry_outside(dir: &[u8], names: &[u8], i: usize) -> bool
 // Compares the name of entry `i` with a name.
 fn compare_entry(dir: &[u8], names: &[u8], i: usize, name: &[u8]) -> Order
     requires { EntryInside dir.now names.now i }
-    ensures { result ≡ order (name_at (was dir) (was names) i) (was name) }
+    ensures { result ≡ order (name_at dir.now names.now i) name.now }
 {
     let at = i * ENTRY_SIZE;
     let start = long(read_u32_at(dir, at));
@@ -161,7 +160,7 @@ pub enum TermEntry {
 // stays inside it, and ends at a name that does not.
 pub fn term_entry(dir: &[u8], names: &[u8], count: u32, name: &[u8]) -> TermEntry
     requires { count * entry_size ≤ length dir.now }
-    ensures { LocatedAny (was dir) (was names) count (was name) result }
+    ensures { LocatedAny dir.now names.now count name.now result }
 {
     let mut low: usize = 0;
     let mut high = long(count);

@@ -1,7 +1,6 @@
 // The header: magic, version, flags, counts, and where the four sections lie.
 ghost use Rattle.std.specs.Prelude.{◌≡◌, true, ◌↔◌, ◌≤◌, length};
 ghost use Rattle.segment.specs.Records.{header_size};
-ghost use Rattle.common.specs.Slices.{was};
 ghost use Rattle.segment.specs.Opening.{sections, ranges};
 ghost use Rattle.read_open.specs.Steps.{range_end, Reads};
 ghost use Rattle.read_open.specs.Opened.{Fits};
@@ -55,7 +54,7 @@ pub fn checked_range(at: usize, n: usize, whole: usize, section: u32) -> RangeEn
 // The four ranges, the first bad one first; then trailing bytes.
 fn read_ranges(bytes: &[u8]) -> Opening
     requires { header_size ≤ length bytes.now }
-    ensures { Reads (was bytes) (ranges (was bytes)) result }
+    ensures { Reads bytes.now (ranges bytes.now) result }
 {
     let names = match checked_range(
         HEADER_SIZE,
@@ -105,7 +104,7 @@ fn read_ranges(bytes: &[u8]) -> Opening
 
 // The header's checks: length 72, magic, version, flags, the four ranges, trailing bytes.
 pub fn read_header(bytes: &[u8]) -> Opening
-    ensures { Reads (was bytes) (sections (was bytes)) result }
+    ensures { Reads bytes.now (sections bytes.now) result }
 {
     if bytes.len() < HEADER_SIZE {
         return Opening::Refused(truncated(HEADER));
@@ -126,7 +125,7 @@ pub fn read_header(bytes: &[u8]) -> Opening
 
 // Whether a layout that a caller hands in fits some bytes: enough for every lookup to stay inside them.
 pub fn fits(bytes: &[u8], at: Layout) -> bool
-    ensures { (result ≡ true) ↔ Fits (was bytes) at }
+    ensures { (result ≡ true) ↔ Fits bytes.now at }
 {
     if at.names < HEADER_SIZE {
         return false;

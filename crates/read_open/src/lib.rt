@@ -4,6 +4,8 @@
 //   open_segment  the calls: `open`, and `open_layout` for the calls of other crates
 // Crate segment defines what opening answers (specs/Opening.antt); specs/Opened.antt here says what callers may rely on after it, and when
 // a layout that is handed in fits; specs/Layouts.antt which layout the header's numbers make.
+#![tactic(auto)]
+
 pub mod directory;
 pub mod header;
 pub mod open_segment;

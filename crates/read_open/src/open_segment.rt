@@ -1,6 +1,5 @@
 // A segment opened: the header, the checksums, the metadata, the directory. Posting lists are decoded when they are asked for.
 ghost use Rattle.std.specs.Prelude.{◌≡◌, ◌+◌, ◌≤◌, length};
-ghost use Rattle.common.specs.Slices.{was};
 ghost use Rattle.segment.specs.Opening.{checksums, contents, section_checksum, open_segment};
 ghost use Rattle.read_open.specs.Steps.{cut, SectionsFollow};
 ghost use Rattle.segment.specs.Records.{between};
@@ -22,7 +21,7 @@ use segment::replies::{Counts, Opened};
 // The checksum of the bytes from `from` to `to`, against the one in the header at offset `at`.
 fn check_crc(bytes: &[u8], from: usize, to: usize, at: usize, section: u32) -> Checked
     requires { (from ≤ to) × (to ≤ length bytes.now) × (at + 4 ≤ length bytes.now) }
-    ensures { result ≡ checked (section_checksum section (between from to (was bytes)) at (was bytes)) }
+    ensures { result ≡ checked (section_checksum section (between from to bytes.now) at bytes.now) }
 {
     if crc32(&bytes[from..to]) != read_u32_at(bytes, at) {
         return Checked::Refused(checksum_mismatch(section));
@@ -33,7 +32,7 @@ fn check_crc(bytes: &[u8], from: usize, to: usize, at: usize, section: u32) -> C
 // The four checksums.
 fn check_sections(bytes: &[u8], at: Layout) -> Checked
     requires { SectionsFollow bytes.now at }
-    ensures { result ≡ checked (checksums (was bytes) (cut (was bytes) at)) }
+    ensures { result ≡ checked (checksums bytes.now (cut bytes.now at)) }
 {
     if let Checked::Refused(x) = check_crc(bytes, HEADER_SIZE, at.names, 56, TERM_DIRECTORY) {
         return Checked::Refused(x);
@@ -50,7 +49,7 @@ fn check_sections(bytes: &[u8], at: Layout) -> Checked
 // Metadata, then directory.
 fn check_contents(bytes: &[u8], at: Layout) -> Checked
     requires { SectionsFollow bytes.now at }
-    ensures { result ≡ checked (contents (cut (was bytes) at)) }
+    ensures { result ≡ checked (contents (cut bytes.now at)) }
 {
     let names = at.names;
     let metadata = at.metadata;
@@ -68,7 +67,7 @@ fn check_contents(bytes: &[u8], at: Layout) -> Checked
 
 // Opens a segment for the calls of this library: all checks of document 01, in its order.
 pub fn open_layout(bytes: &[u8]) -> Opening
-    ensures { Opens (was bytes) result }
+    ensures { Opens bytes.now result }
 {
     let at = match read_header(bytes) {
         Opening::Layout(at) => at,
@@ -87,7 +86,7 @@ pub fn open_layout(bytes: &[u8]) -> Opening
 
 // Opens a segment: the two counts, or the first refusal in document 01's order.
 pub fn open(bytes: &[u8]) -> Opened
-    ensures { result ≡ opened (open_segment (was bytes)) }
+    ensures { result ≡ opened (open_segment bytes.now) }
 {
     match open_layout(bytes) {
         Opening::Layout(at) => Opened::Counts(Counts {

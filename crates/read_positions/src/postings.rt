@@ -1,7 +1,6 @@
 // The calls on terms that list positions.
 ghost use Rattle.std.proofs.Math.Option.{none};
 ghost use Rattle.std.specs.Prelude.{◌+◌, ◌≤◌, length, drop};
-ghost use Rattle.common.specs.Slices.{was, left};
 ghost use Rattle.read_cursors.specs.Held.{held_postings};
 ghost use Rattle.read_cursors.specs.Steps.{positions_from};
 ghost use Rattle.common.specs.Stores.{Stored};
@@ -19,7 +18,7 @@ use segment::replies::{Counted, TermTotals, Totals};
 // Stores the positions from a cursor on, from index `at` of `out` on; returns the index after them.
 pub fn fill_positions(bytes: &[u8], from: Positions, out: &mut [u32], at: usize) -> usize
     requires { at + length (positions_from bytes.now from) ≤ length out.old }
-    ensures { Stored (positions_from (was bytes) from) at (was out) result (left out) }
+    ensures { Stored (positions_from bytes.now from) at out.old result out.new }
 {
     let mut c = from;
     let mut i = at;
@@ -44,8 +43,8 @@ pub fn fill_postings(
     requires { (length (held_postings df none (drop at bytes.now)) ≤ length ids.old)
         × (length (held_postings df none (drop at bytes.now)) ≤ length counts.old)
         × (length (all_positions (held_postings df none (drop at bytes.now))) ≤ length positions.old) }
-    ensures { FilledPostings (held_postings df none (drop at (was bytes))) (was ids) (was counts) (was positions) (left ids)
-        (left counts) (left positions) }
+    ensures { FilledPostings (held_postings df none (drop at bytes.now)) ids.old counts.old positions.old ids.new
+        counts.new positions.new }
 {
     let mut c = Postings::start(bytes, at, df);
     let mut i: usize = 0;
@@ -68,8 +67,8 @@ pub fn term_postings(
     counts: &mut [u32],
     positions: &mut [u32],
 ) -> TermTotals
-    ensures { PostingsAnswered (was bytes) (was name) (was ids) (was counts) (was positions) result (left ids) (left counts)
-        (left positions) }
+    ensures { PostingsAnswered bytes.now name.now ids.old counts.old positions.old result ids.new counts.new
+        positions.new }
 {
     let list = match decode_term(bytes, name) {
         Decoding::List(list) => list,
@@ -104,7 +103,7 @@ pub fn term_postings(
 // How many positions a term has in one document, and which, in rising order; none if the term or the document is unknown. The whole list
 // is decoded first.
 pub fn positions(bytes: &[u8], name: &[u8], id: DocId, out: &mut [u32]) -> Counted
-    ensures { PositionsAnswered (was bytes) (was name) id.0 (was out) result (left out) }
+    ensures { PositionsAnswered bytes.now name.now id.0 out.old result out.new }
 {
     let list = match decode_term(bytes, name) {
         Decoding::List(list) => list,

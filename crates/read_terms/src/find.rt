@@ -1,7 +1,6 @@
 // A term found by a layout that fits, and its posting list decoded.
 ghost use Rattle.std.specs.Prelude.{◌≡◌, false, ◌↔◌, ◌<◌};
 ghost use Rattle.std.proofs.Math.Option.{none};
-ghost use Rattle.common.specs.Slices.{was};
 ghost use Rattle.read_open.specs.Steps.{SectionsFollow, cut};
 ghost use Rattle.read_cursors.specs.Held.{held_documents};
 ghost use Rattle.segment.specs.Postings.{decode};
@@ -37,7 +36,7 @@ pub enum TermFound {
 // Whether the list of the entry at an index does not lie in the lists. Opening has shown that it does.
 fn list_outside(bytes: &[u8], at: Layout, i: usize) -> bool
     requires { Fits bytes.now at × (i < at.terms) }
-    ensures { (result ≡ false) ↔ ListLies (was bytes) at i }
+    ensures { (result ≡ false) ↔ ListLies bytes.now at i }
 {
     let names = at.names;
     let offset = i * ENTRY_SIZE;
@@ -57,7 +56,7 @@ fn list_outside(bytes: &[u8], at: Layout, i: usize) -> bool
 // The list of the entry at an index of the directory.
 pub fn entry_list(bytes: &[u8], at: Layout, i: usize) -> TermList
     requires { EntryLies bytes.now at i }
-    ensures { EntryList (was bytes) at i result }
+    ensures { EntryList bytes.now at i result }
 {
     let names = at.names;
     let lists = at.lists;
@@ -77,7 +76,7 @@ pub fn entry_list(bytes: &[u8], at: Layout, i: usize) -> TermList
 // The list of the term with a name; none where it does not lie in the bytes.
 pub fn find_term(bytes: &[u8], at: Layout, name: &[u8]) -> TermFound
     requires { Fits bytes.now at }
-    ensures { TermFound (was bytes) at (was name) result }
+    ensures { TermFound bytes.now at name.now result }
 {
     let names = at.names;
     let metadata = at.metadata;
@@ -100,8 +99,8 @@ pub fn find_term(bytes: &[u8], at: Layout, name: &[u8]) -> TermFound
 // The whole list decoded: its checksum, then each posting; how many positions it has.
 pub fn decode_postings(bytes: &[u8], at: Layout, list: TermList) -> Tally
     requires { SectionsFollow bytes.now at × ListInside bytes.now list }
-    ensures { result ≡ tallied (decode (held_documents at.documents none (cut (was bytes) at).metadata)
-        (list_entry (was bytes) list)) }
+    ensures { result ≡ tallied (decode (held_documents at.documents none (cut bytes.now at).metadata)
+        (list_entry bytes.now list)) }
 {
     let start = list.start;
     let end = list.end;
@@ -130,8 +129,8 @@ pub fn decode_postings_for(
 ) -> Tally
     requires { SectionsFollow bytes.now at × ListInside bytes.now list
         × Marks (cut bytes.now at).metadata (held_documents at.documents none (cut bytes.now at).metadata) marks }
-    ensures { result ≡ tallied_in doc.0 (decode (held_documents at.documents none (cut (was bytes) at).metadata)
-        (list_entry (was bytes) list)) }
+    ensures { result ≡ tallied_in doc.0 (decode (held_documents at.documents none (cut bytes.now at).metadata)
+        (list_entry bytes.now list)) }
 {
     let start = list.start;
     let end = list.end;

@@ -1,7 +1,6 @@
 // The calls on terms, and on their documents.
 ghost use Rattle.std.specs.Prelude.{◌≡◌, map, ◌≤◌, length, drop};
 ghost use Rattle.std.proofs.Math.Option.{none};
-ghost use Rattle.common.specs.Slices.{was, left};
 ghost use Rattle.read_cursors.specs.Held.{held_postings};
 ghost use Rattle.segment.specs.Steps.{checked};
 ghost use Rattle.calls.specs.Lookups.{well_named};
@@ -23,7 +22,7 @@ use utf8::characters::is_utf8;
 
 // A question's name: not too large, and UTF-8.
 pub fn check_name(name: &[u8]) -> Checked
-    ensures { result ≡ checked (well_named (was name)) }
+    ensures { result ≡ checked (well_named name.now) }
 {
     if LIMIT < name.len() {
         return Checked::Refused(too_large());
@@ -36,7 +35,7 @@ pub fn check_name(name: &[u8]) -> Checked
 
 // How many documents have a term, as the directory stores it; 0 for an unknown term. No list is decoded.
 pub fn df(bytes: &[u8], name: &[u8]) -> DocFreq
-    ensures { result ≡ df_answer (df_of (was bytes) (was name)) }
+    ensures { result ≡ df_answer (df_of bytes.now name.now) }
 {
     if let Checked::Refused(x) = check_name(name) {
         return DocFreq::Refused(x);
@@ -68,7 +67,7 @@ pub enum Decoding {
 
 // The name checked, the segment opened, the term's list decoded whole.
 pub fn decode_term(bytes: &[u8], name: &[u8]) -> Decoding
-    ensures { Decodes (was bytes) (was name) result }
+    ensures { Decodes bytes.now name.now result }
 {
     if let Checked::Refused(x) = check_name(name) {
         return Decoding::Refused(x);
@@ -98,7 +97,7 @@ pub fn decode_term(bytes: &[u8], name: &[u8]) -> Decoding
 // The documents of a list at the front of a buffer.
 pub fn fill_docs(bytes: &[u8], at: usize, df: u32, ids: &mut [u32])
     requires { length (held_postings df none (drop at bytes.now)) ≤ length ids.old }
-    ensures { left ids ≡ fronted (map (λ s. s.doc) (held_postings df none (drop at (was bytes)))) (was ids) }
+    ensures { ids.new ≡ fronted (map (λ s. s.doc) (held_postings df none (drop at bytes.now))) ids.old }
 {
     let mut c = Postings::start(bytes, at, df);
     let mut i: usize = 0;
@@ -112,7 +111,7 @@ pub fn fill_docs(bytes: &[u8], at: usize, df: u32, ids: &mut [u32])
 
 // How many documents have a term, and their ids in rising order; none for an unknown term.
 pub fn docs_with_term(bytes: &[u8], name: &[u8], ids: &mut [u32]) -> Counted
-    ensures { DocsAnswered (was bytes) (was name) (was ids) result (left ids) }
+    ensures { DocsAnswered bytes.now name.now ids.old result ids.new }
 {
     let list = match decode_term(bytes, name) {
         Decoding::List(list) => list,

@@ -2,7 +2,6 @@
 // answer is false: decode_postings, list by list, says the refusal.
 ghost use Rattle.std.specs.Prelude.{◌≡◌, true, ◌≤◌, length};
 ghost use Rattle.std.proofs.Math.Option.{none};
-ghost use Rattle.common.specs.Slices.{was};
 ghost use Rattle.read_open.specs.Steps.{SectionsFollow, cut};
 ghost use Rattle.read_cursors.specs.Held.{held_documents};
 ghost use Rattle.read_terms.specs.Together.{SumsMatch, ListsDecode};
@@ -20,7 +19,7 @@ fn sums_match(
     checksum: &[u32; 128],
 ) -> bool
     requires { m ≤ 128 }
-    ensures { result ≡ true → SumsMatch (was bytes) m (was start) (was end) (was checksum) }
+    ensures { result ≡ true → SumsMatch bytes.now m start.now end.now checksum.now }
 {
     let mut k: usize = 0;
     while k < m {
@@ -51,8 +50,8 @@ pub fn lists_decode(
     checksum: &[u32; 128],
 ) -> bool
     requires { SectionsFollow bytes.now at × (length start.now ≡ 128) × (length df.now ≡ 128) }
-    ensures { result ≡ true → ListsDecode (held_documents at.documents none (cut (was bytes) at).metadata) (was bytes) m
-        (was start) (was end) (was df) (was checksum) }
+    ensures { result ≡ true → ListsDecode (held_documents at.documents none (cut bytes.now at).metadata) bytes.now m
+        start.now end.now df.now checksum.now }
 {
     if 128 < m {
         return false;

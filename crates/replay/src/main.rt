@@ -5,6 +5,8 @@
 //   case     the fields of a case, and where the parts of its data lie
 //   run      a case's call, made and compared
 //   print    the totals
+#![tactic(auto)]
+
 mod case;
 mod print;
 mod run;

@@ -6,6 +6,8 @@
 //   replies  the reply that a call must have
 //   totals   what is counted
 //   print    what is written
+#![tactic(auto)]
+
 pub mod buffers;
 pub mod fields;
 pub mod list;

@@ -4,6 +4,8 @@
 // must write stand in the file stdout: totals.py counts them from the list, and no run does. Over what replay_list has, read in this order:
 //   case     the fields of a case, and where the parts of its data lie
 //   run      a case's call, made and compared
+#![tactic(auto)]
+
 mod case;
 mod run;
 

@@ -1,6 +1,5 @@
 // Numbers of fixed width, little-endian. The caller has tested that they lie in the slice.
 ghost use Rattle.std.specs.Prelude.{◌≡◌, ◌+◌, ◌≤◌, length};
-ghost use Rattle.common.specs.Slices.{was};
 ghost use Rattle.segment.specs.Records.{field};
 
 use common::widths::{byte, long};
@@ -14,7 +13,7 @@ pub const ENTRY_SIZE: usize = 32;
 // The u32 at an offset.
 pub fn read_u32_at(s: &[u8], at: usize) -> u32
     requires { at + 4 ≤ length s.now }
-    ensures { result ≡ field 4 at (was s) }
+    ensures { result ≡ field 4 at s.now }
 {
     let b0 = byte(s[at]);
     let b1 = byte(s[at + 1]);
@@ -26,7 +25,7 @@ pub fn read_u32_at(s: &[u8], at: usize) -> u32
 // The u64 at an offset.
 pub fn read_usize_at(s: &[u8], at: usize) -> usize
     requires { at + 8 ≤ length s.now }
-    ensures { result ≡ field 8 at (was s) }
+    ensures { result ≡ field 8 at s.now }
 {
     let low = long(read_u32_at(s, at));
     let high = long(read_u32_at(s, at + 4));

@@ -8,6 +8,8 @@
 //   names      equality and byte order of names
 //   texts      several names in one text
 // Crates read_lists and read_open check a segment's bytes, crates write_* write them.
+#![tactic(auto)]
+
 pub mod checked;
 pub mod fixed;
 pub mod ids;

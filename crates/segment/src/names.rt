@@ -1,12 +1,11 @@
 // Byte strings: whether a slice begins with one, and the order of two.
 ghost use Rattle.std.specs.Prelude.{◌≡◌, length, take};
-ghost use Rattle.common.specs.Slices.{was};
 ghost use Rattle.segment.specs.Names.{same, precedes as precedes_name};
 ghost use Rattle.segment.specs.Steps.{order};
 
 // Whether the slice begins with a fixed byte string.
 pub fn starts_with(s: &[u8], mark: &[u8]) -> bool
-    ensures { result ≡ same (take (length (was mark)) (was s)) (was mark) }
+    ensures { result ≡ same (take (length mark.now) s.now) mark.now }
 {
     if s.len() < mark.len() {
         return false;
@@ -31,7 +30,7 @@ pub enum Order {
 
 // Which of two names comes first in byte order.
 pub fn compare(a: &[u8], b: &[u8]) -> Order
-    ensures { result ≡ order (was a) (was b) }
+    ensures { result ≡ order a.now b.now }
 {
     let mut i = 0;
     while i < a.len() {
@@ -56,7 +55,7 @@ pub fn compare(a: &[u8], b: &[u8]) -> Order
 
 // Whether the first name comes before the second.
 pub fn precedes(a: &[u8], b: &[u8]) -> bool
-    ensures { result ≡ precedes_name (was a) (was b) }
+    ensures { result ≡ precedes_name a.now b.now }
 {
     match compare(a, b) {
         Order::Less => true,

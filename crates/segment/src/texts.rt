@@ -1,13 +1,12 @@
 // Several names in one text, by their ends.
 ghost use Rattle.std.specs.Prelude.{◌≡◌};
-ghost use Rattle.common.specs.Slices.{was};
 ghost use Rattle.segment.specs.Texts.{ends_fit};
 
 use common::widths::long;
 
 // Whether the ends never fall and come to the text's length n.
 pub fn ends_fit(ends: &[u32], n: usize) -> bool
-    ensures { result ≡ ends_fit 0 (was ends) n }
+    ensures { result ≡ ends_fit 0 ends.now n }
 {
     let mut from: usize = 0;
     let mut i: usize = 0;

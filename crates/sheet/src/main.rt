@@ -3,6 +3,8 @@
 // 13). The files in data/ and the stored output are made by runs.py, from the words of documents 01 and 02 and not from a run. Read in
 // this order:
 //   id   a bar's id, from decimal digits
+#![tactic(auto)]
+
 mod id;
 
 use id::{BarId, read_id};

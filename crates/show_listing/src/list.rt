@@ -1,7 +1,6 @@
 // The text of a listing.
 ghost use Rattle.std.specs.Prelude.{◌≡◌, [], ◌∷◌, ◌++◌, ◌+◌, ◌*◌, ◌^◌, ◌≤◌, ◌<◌, length};
 ghost use Rattle.std.proofs.Math.Option.{none};
-ghost use Rattle.common.specs.Slices.{was, left};
 ghost use Rattle.common.specs.Stores.{Stored};
 ghost use Rattle.segment.specs.Records.{entry_size};
 ghost use Rattle.read_cursors.specs.Held.{held_documents};
@@ -25,7 +24,7 @@ use show_columns::put::{name_len, put_name, put_number};
 // The end of a line.
 pub fn put_end(out: &mut [u8], at: usize) -> usize
     requires { at + 1 ≤ length out.old }
-    ensures { Stored (10 ∷ []) at (was out) result (left out) }
+    ensures { Stored (10 ∷ []) at out.old result out.new }
 {
     out[at] = 10;
     at + 1
@@ -34,7 +33,7 @@ pub fn put_end(out: &mut [u8], at: usize) -> usize
 // A line of two numbers.
 fn put_pair(out: &mut [u8], at: usize, a: u32, b: u32) -> usize
     requires { at + 21 ≤ length out.old }
-    ensures { Stored (column a ++ column b ++ 10 ∷ []) at (was out) result (left out) }
+    ensures { Stored (column a ++ column b ++ 10 ∷ []) at out.old result out.new }
 {
     let second = put_number(out, at, a as u64);
     let end = put_number(out, second, b as u64);
@@ -44,7 +43,7 @@ fn put_pair(out: &mut [u8], at: usize, a: u32, b: u32) -> usize
 // A line for each document.
 fn put_documents(meta: &[u8], count: u32, out: &mut [u8], at: usize) -> usize
     requires { at + 21 * length (held_documents count none meta.now) ≤ length out.old }
-    ensures { Stored (document_lines (held_documents count none (was meta))) at (was out) result (left out) }
+    ensures { Stored (document_lines (held_documents count none meta.now)) at out.old result out.new }
 {
     let mut c = Documents::start(meta, count);
     let mut next = at;
@@ -62,7 +61,7 @@ const NAME_WIDTH: usize = 16;
 // Where a term's name lies in the section of term bytes.
 pub fn entry_name(dir: &[u8], i: usize) -> NameRange
     requires { i * entry_size + entry_size ≤ length dir.now }
-    ensures { result ≡ name_range (was dir) i }
+    ensures { result ≡ name_range dir.now i }
 {
     let place = i * ENTRY_SIZE;
     let start = long(read_u32_at(dir, place));
@@ -76,7 +75,7 @@ pub fn entry_name(dir: &[u8], i: usize) -> NameRange
 // How many bytes a term's line has.
 fn entry_len(dir: &[u8], names: &[u8], i: usize) -> usize
     requires { EntryInside dir.now names.now i }
-    ensures { result ≡ length (entry_line (entry_at (was dir) (was names) [] i)) }
+    ensures { result ≡ length (entry_line (entry_at dir.now names.now [] i)) }
 {
     let name = entry_name(dir, i);
     let start = name.start;
@@ -87,7 +86,7 @@ fn entry_len(dir: &[u8], names: &[u8], i: usize) -> usize
 // How many bytes the terms' lines have.
 fn entries_len(dir: &[u8], names: &[u8], terms: usize) -> usize
     requires { EntriesInside dir.now names.now terms × (terms < 2 ^ 32) }
-    ensures { result ≡ length (entry_lines_at (was dir) (was names) terms 0) }
+    ensures { result ≡ length (entry_lines_at dir.now names.now terms 0) }
 {
     let mut size: usize = 0;
     let mut i: usize = 0;
@@ -101,7 +100,7 @@ fn entries_len(dir: &[u8], names: &[u8], terms: usize) -> usize
 // A term's line: its name and its df.
 fn put_entry(dir: &[u8], names: &[u8], i: usize, out: &mut [u8], at: usize) -> usize
     requires { EntryInside dir.now names.now i × LineRoom dir.now names.now i out.old at }
-    ensures { Stored (entry_line (entry_at (was dir) (was names) [] i)) at (was out) result (left out) }
+    ensures { Stored (entry_line (entry_at dir.now names.now [] i)) at out.old result out.new }
 {
     let name = entry_name(dir, i);
     let start = name.start;
@@ -115,7 +114,7 @@ fn put_entry(dir: &[u8], names: &[u8], i: usize, out: &mut [u8], at: usize) -> u
 // A line for each term.
 fn put_entries(dir: &[u8], names: &[u8], terms: usize, out: &mut [u8], at: usize) -> usize
     requires { EntriesRoom dir.now names.now terms out.old at }
-    ensures { Stored (entry_lines_at (was dir) (was names) terms 0) at (was out) result (left out) }
+    ensures { Stored (entry_lines_at dir.now names.now terms 0) at out.old result out.new }
 {
     let mut next = at;
     let mut i: usize = 0;
@@ -129,7 +128,7 @@ fn put_entries(dir: &[u8], names: &[u8], terms: usize, out: &mut [u8], at: usize
 // A refusal's line.
 pub fn list_refusal(x: Refusal, out: &mut [u8]) -> Counted
     requires { x.index < 10000000000 }
-    ensures { RefusalListed x (was out) result (left out) }
+    ensures { RefusalListed x out.old result out.new }
 {
     if out.len() < 31 {
         return Counted::Refused(no_room(1, 31));
@@ -143,7 +142,7 @@ pub fn list_refusal(x: Refusal, out: &mut [u8]) -> Counted
 // An open segment's lines.
 fn list_segment(bytes: &[u8], at: Layout, out: &mut [u8]) -> Counted
     requires { OpenedAs bytes.now at }
-    ensures { SegmentListed (was bytes) at (was out) result (left out) }
+    ensures { SegmentListed bytes.now at out.old result out.new }
 {
     let documents = long(at.documents);
     let terms = long(at.terms);
@@ -169,7 +168,7 @@ fn list_segment(bytes: &[u8], at: Layout, out: &mut [u8]) -> Counted
 
 // The listing of a segment of at most 65,536 bytes: the text at the slice's front and its length, or 13.
 pub fn listing(bytes: &[u8], out: &mut [u8]) -> Counted
-    ensures { ListedInto (was bytes) (was out) result (left out) }
+    ensures { ListedInto bytes.now out.old result out.new }
 {
     if 65536 < bytes.len() {
         return list_refusal(too_large(), out);

@@ -1,5 +1,4 @@
 // A bar on paper, written out.
-ghost use Rattle.common.specs.Slices.{was, left};
 ghost use Rattle.show_sheet.specs.Promise.{SheetAnswered};
 
 use segment::ids::DocId;
@@ -8,7 +7,7 @@ use show_sheet::sheet::bar_sheet;
 
 // Draws a bar as `bar_sheet` does, and writes its sheet to a descriptor; after a refusal, nothing.
 pub fn write_sheet(fd: i32, bytes: &[u8], id: DocId, out: &mut [u8]) -> Counted
-    ensures { SheetAnswered (was bytes) id.0 (was out) result (left out) }
+    ensures { SheetAnswered bytes.now id.0 out.old result out.new }
 {
     let r = bar_sheet(bytes, id, out);
     if let Counted::Count(k) = r {

@@ -1,6 +1,5 @@
 // The bar that is asked for.
 ghost use Rattle.std.specs.Prelude.{◌≡◌};
-ghost use Rattle.common.specs.Slices.{was};
 ghost use Rattle.read_open.specs.Steps.{SectionsFollow};
 ghost use Rattle.show_sheet.specs.Steps.{documents_in, paper_length, bar_found};
 
@@ -27,7 +26,7 @@ pub enum BarFound {
 // The bar with an id, if the segment has it and it is short enough for the paper.
 pub fn find_bar(bytes: &[u8], at: Layout, id: DocId) -> BarFound
     requires { SectionsFollow bytes.now at }
-    ensures { result ≡ bar_found id.0 (paper_length (documents_in (was bytes) at) id.0) }
+    ensures { result ≡ bar_found id.0 (paper_length (documents_in bytes.now at) id.0) }
 {
     let metadata = at.metadata;
     let lists = at.lists;

@@ -1,6 +1,5 @@
 // The sheet: every list decoded and the text measured, then drawn.
 ghost use Rattle.std.specs.Prelude.{◌≡◌, ◌+◌, ◌≤◌, ◌<◌, length};
-ghost use Rattle.common.specs.Slices.{was, left};
 ghost use Rattle.common.specs.Stores.{Stored};
 ghost use Rattle.calls.specs.Sheet.{heading};
 ghost use Rattle.calls.specs.Replies.{count_of};
@@ -40,7 +39,7 @@ fn line_len(
 ) -> Counted
     requires { Drawable bytes.now at bar × (i < at.terms)
         × Marks (cut bytes.now at).metadata (documents_in bytes.now at) marks }
-    ensures { result ≡ count_of (line_in (documents_in (was bytes) at) bar (entry_in (was bytes) at i)) }
+    ensures { result ≡ count_of (line_in (documents_in bytes.now at) bar (entry_in bytes.now at i)) }
 {
     let list = entry_list(bytes, at, i);
     match decode_postings_for(bytes, at, list, bar.id, marks, ids) {
@@ -63,7 +62,7 @@ fn line_len(
 // How many bytes the sounds' lines have, every list of the directory decoded in its order; or the first refusal.
 fn lines_len(bytes: &[u8], at: Layout, bar: Bar) -> Counted
     requires { Drawable bytes.now at bar }
-    ensures { result ≡ count_of (lines_in (was bytes) at bar at.terms 0) }
+    ensures { result ≡ count_of (lines_in bytes.now at bar at.terms 0) }
 {
     let terms = long(at.terms);
     let metadata = at.metadata;
@@ -89,7 +88,7 @@ fn lines_len(bytes: &[u8], at: Layout, bar: Bar) -> Counted
 // The first line.
 fn put_heading(bar: Bar, out: &mut [u8]) -> usize
     requires { 81 ≤ length out.old }
-    ensures { Stored (heading bar.id.0 bar.len) 0 (was out) result (left out) }
+    ensures { Stored (heading bar.id.0 bar.len) 0 out.old result out.new }
 {
     let id = bar.id;
     let next = put_number(out, 0, id.0 as u64);
@@ -102,8 +101,8 @@ fn put_heading(bar: Bar, out: &mut [u8]) -> usize
 fn put_line(bytes: &[u8], at: Layout, bar: Bar, i: usize, out: &mut [u8], next: usize) -> usize
     requires { Drawable bytes.now at bar × (i < at.terms)
         × RoomFor (line_in (documents_in bytes.now at) bar (entry_in bytes.now at i)) out.old next }
-    ensures { Stored (text_in (line_in (documents_in (was bytes) at) bar (entry_in (was bytes) at i))) next (was out) result
-        (left out) }
+    ensures { Stored (text_in (line_in (documents_in bytes.now at) bar (entry_in bytes.now at i))) next out.old result
+        out.new }
 {
     let list = entry_list(bytes, at, i);
     let first = Postings::start(bytes, list.start, list.df);
@@ -128,7 +127,7 @@ fn put_line(bytes: &[u8], at: Layout, bar: Bar, i: usize, out: &mut [u8], next: 
 // The sounds' lines.
 fn put_lines(bytes: &[u8], at: Layout, bar: Bar, out: &mut [u8], from: usize) -> usize
     requires { Drawable bytes.now at bar × RoomFor (lines_in bytes.now at bar at.terms 0) out.old from }
-    ensures { Stored (text_in (lines_in (was bytes) at bar at.terms 0)) from (was out) result (left out) }
+    ensures { Stored (text_in (lines_in bytes.now at bar at.terms 0)) from out.old result out.new }
 {
     let terms = long(at.terms);
     let mut next = from;
@@ -144,7 +143,7 @@ fn put_lines(bytes: &[u8], at: Layout, bar: Bar, out: &mut [u8], from: usize) ->
 // length, and leaves the buffer as it was.
 fn draw(bytes: &[u8], at: Layout, bar: Bar, out: &mut [u8]) -> Counted
     requires { Drawable bytes.now at bar }
-    ensures { SheetDrawn (was bytes) at bar (was out) result (left out) }
+    ensures { SheetDrawn bytes.now at bar out.old result out.new }
 {
     let lines = match lines_len(bytes, at, bar) {
         Counted::Count(n) => n,
@@ -162,7 +161,7 @@ fn draw(bytes: &[u8], at: Layout, bar: Bar, out: &mut [u8]) -> Counted
 
 // A bar on paper: how many bytes its sheet has, at the front of the buffer.
 pub fn bar_sheet(bytes: &[u8], id: DocId, out: &mut [u8]) -> Counted
-    ensures { SheetAnswered (was bytes) id.0 (was out) result (left out) }
+    ensures { SheetAnswered bytes.now id.0 out.old result out.new }
 {
     let at = match open_layout(bytes) {
         Opening::Layout(at) => at,

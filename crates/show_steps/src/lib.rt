@@ -3,4 +3,6 @@
 //   line                the mark of one step, the 64 steps, the line
 //   specs/Steps.antt    a step's mark by a cursor; proofs/Marks.antt: it is the mark that crate calls defines
 //   proofs/Lines.antt   how long a line is, for those who need room for it
+#![tactic(auto)]
+
 pub mod line;

@@ -1,7 +1,6 @@
 // One sound of a bar, as text. Each `put_` returns the offset past what it stored.
 ghost use Rattle.std.specs.Prelude.{◌≡◌, ◌+◌, ◌≤◌, ◌<◌, length, drop};
 ghost use Rattle.std.proofs.Math.Option.{none};
-ghost use Rattle.common.specs.Slices.{was, left};
 ghost use Rattle.common.specs.Stores.{Stored};
 ghost use Rattle.read_cursors.specs.Held.{held_positions};
 ghost use Rattle.read_cursors.specs.Steps.{positions_from};
@@ -31,7 +30,7 @@ fn step_mark(c: Positions, len: u32, step: u32) -> u8
 // The 64 steps of a bar.
 fn put_steps(bytes: &[u8], hits: Positions, len: u32, out: &mut [u8], at: usize) -> usize
     requires { at + 64 ≤ length out.old }
-    ensures { Stored (marks len (positions_from (was bytes) hits) 64 0) at (was out) result (left out) }
+    ensures { Stored (marks len (positions_from bytes.now hits) 64 0) at out.old result out.new }
 {
     let mut c = hits;
     let mut step: u32 = 0;
@@ -63,8 +62,8 @@ pub fn put_sound(
         × (length (held_positions here.count none (drop here.at bytes.now)) ≡ here.count)
         × (at + length (name_column 12 name.now) + 69 ≤ length out.old) }
     ensures { Stored
-        (sound_line len (was name) (held_positions here.count none (drop here.at (was bytes))))
-        at (was out) result (left out) }
+        (sound_line len name.now (held_positions here.count none (drop here.at bytes.now)))
+        at out.old result out.new }
 {
     let steps = put_name(out, at, name, NAME_WIDTH);
     let hits = put_steps(bytes, Positions::start(bytes, here), len, out, steps);

@@ -1,11 +1,10 @@
 // UTF-8 (RFC 3629) by the grammar of its section 4, one character after the other.
 ghost use Rattle.std.specs.Prelude.{◌≡◌, [], ◌∷◌, drop};
-ghost use Rattle.common.specs.Slices.{was};
 ghost use Rattle.utf8.specs.Utf8.{utf8, char_length, starts, range, utf8_tail};
 
 // Whether the octet at an offset is in a range.
 fn one(s: &[u8], at: usize, low: u8, high: u8) -> bool
-    ensures { result ≡ starts (range low high ∷ []) (drop at (was s)) }
+    ensures { result ≡ starts (range low high ∷ []) (drop at s.now) }
 {
     if s.len() <= at {
         return false;
@@ -19,7 +18,7 @@ fn one(s: &[u8], at: usize, low: u8, high: u8) -> bool
 
 // An octet of each of two ranges.
 fn two(s: &[u8], at: usize, low: u8, high: u8, low1: u8, high1: u8) -> bool
-    ensures { result ≡ starts (range low high ∷ range low1 high1 ∷ []) (drop at (was s)) }
+    ensures { result ≡ starts (range low high ∷ range low1 high1 ∷ []) (drop at s.now) }
 {
     if one(s, at, low, high) {
         return one(s, at + 1, low1, high1);
@@ -29,7 +28,7 @@ fn two(s: &[u8], at: usize, low: u8, high: u8, low1: u8, high1: u8) -> bool
 
 // An octet of each of two ranges, and a tail.
 fn three(s: &[u8], at: usize, low: u8, high: u8, low1: u8, high1: u8) -> bool
-    ensures { result ≡ starts (range low high ∷ range low1 high1 ∷ utf8_tail ∷ []) (drop at (was s)) }
+    ensures { result ≡ starts (range low high ∷ range low1 high1 ∷ utf8_tail ∷ []) (drop at s.now) }
 {
     if one(s, at, low, high) {
         return two(s, at + 1, low1, high1, 0x80, 0xBF);
@@ -39,7 +38,7 @@ fn three(s: &[u8], at: usize, low: u8, high: u8, low1: u8, high1: u8) -> bool
 
 // An octet of each of two ranges, and two tails.
 fn four(s: &[u8], at: usize, low: u8, high: u8, low1: u8, high1: u8) -> bool
-    ensures { result ≡ starts (range low high ∷ range low1 high1 ∷ utf8_tail ∷ utf8_tail ∷ []) (drop at (was s)) }
+    ensures { result ≡ starts (range low high ∷ range low1 high1 ∷ utf8_tail ∷ utf8_tail ∷ []) (drop at s.now) }
 {
     if one(s, at, low, high) {
         return three(s, at + 1, low1, high1, 0x80, 0xBF);
@@ -49,7 +48,7 @@ fn four(s: &[u8], at: usize, low: u8, high: u8, low1: u8, high1: u8) -> bool
 
 // The number of octets of the character at an offset, or 0 where there is none: UTF8-char, row by row.
 pub fn char_len(s: &[u8], at: usize) -> usize
-    ensures { result ≡ char_length (drop at (was s)) }
+    ensures { result ≡ char_length (drop at s.now) }
 {
     if one(s, at, 0x00, 0x7F) {
         return 1;
@@ -83,7 +82,7 @@ pub fn char_len(s: &[u8], at: usize) -> usize
 
 // The bytes are a text in UTF-8.
 pub fn is_utf8(s: &[u8]) -> bool
-    ensures { result ≡ utf8 (was s) }
+    ensures { result ≡ utf8 s.now }
 {
     let mut at = 0;
     while at < s.len() {

@@ -4,5 +4,7 @@
 //   specs/Promise.antt   what `first_characters` promises
 //   characters           the test, character by character
 //   prefix               the first characters of a text
+#![tactic(auto)]
+
 pub mod characters;
 pub mod prefix;

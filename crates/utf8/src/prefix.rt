@@ -1,5 +1,4 @@
 // The first characters of a text, so that it is cut between two of them and never inside one.
-ghost use Rattle.common.specs.Slices.{was};
 ghost use Rattle.utf8.specs.Promise.{IsPrefix};
 
 use crate::characters::char_len;
@@ -12,7 +11,7 @@ pub struct Prefix {
 
 // The first `most` characters, or all where there are fewer: how many they are, and how many octets they have.
 pub fn first_characters(s: &[u8], most: usize) -> Prefix
-    ensures { IsPrefix (was s) most result }
+    ensures { IsPrefix s.now most result }
 {
     let mut characters: usize = 0;
     let mut octets: usize = 0;

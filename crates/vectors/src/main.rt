@@ -1,5 +1,7 @@
 // Published vectors, run one by one. The file stdout has what each must give, written from the publications and not from a run;
 // the checksums of messages that were published for another digest are zlib's.
+#![tactic(auto)]
+
 ghost use Rattle.std.specs.Prelude.{◌≤◌, length};
 
 use crc32::checksum::crc32;

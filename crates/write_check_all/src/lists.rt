@@ -2,7 +2,6 @@
 // from 13, or how many bytes the posting lists take.
 ghost use Rattle.std.specs.Prelude.{◌≡◌, ◌≤◌, length};
 ghost use Rattle.std.proofs.Math.Option.{none};
-ghost use Rattle.common.specs.Slices.{was};
 ghost use Rattle.segment.specs.Metadata.{document};
 ghost use Rattle.segment.specs.Written.{postings_bytes, lists_bytes};
 ghost use Rattle.common.specs.Lists.{paired, total};
@@ -33,9 +32,9 @@ pub fn measure_postings(
     requires { RisingByIndex ids.now × (length ids.now ≡ length lengths.now)
         × (length posting_ids.now ≡ length counts.now) × (total counts.now ≤ length positions.now)
         × (length counts.now ≤ 16777216) × (length positions.now ≤ 16777216) }
-    ensures { result ≡ measured (check_postings (paired document (was ids) (was lengths)) none
-        (postings_in (was posting_ids) (was counts) (was positions)))
-        (length (postings_bytes none (postings_in (was posting_ids) (was counts) (was positions)))) }
+    ensures { result ≡ measured (check_postings (paired document ids.now lengths.now) none
+        (postings_in posting_ids.now counts.now positions.now))
+        (length (postings_bytes none (postings_in posting_ids.now counts.now positions.now))) }
 {
     let mut size: usize = 0;
     let mut previous = DocId(0);
@@ -81,7 +80,7 @@ fn measure_terms(
 ) -> Measured
     requires { Checkable (lists ids.now lengths.now text.now ends.now posting_counts.now posting_ids.now
         position_counts.now positions.now) }
-    ensures { result ≡ measured (terms_checks (paired document (was ids) (was lengths)) none
+    ensures { result ≡ measured (terms_checks (paired document ids.now lengths.now) none
         (terms_from start_walk (given_lists ids lengths text ends posting_counts posting_ids position_counts positions)))
         (length (lists_bytes (terms_from start_walk
         (given_lists ids lengths text ends posting_counts posting_ids position_counts positions)))) }

@@ -1,6 +1,5 @@
 // The flat lists taken term by term: where the next term's name, postings and positions start.
 ghost use Rattle.std.specs.Prelude.{◌≡◌};
-ghost use Rattle.common.specs.Slices.{was};
 ghost use Rattle.write_check_all.specs.Steps.{ShapedFrom, next_of};
 
 use common::widths::long;
@@ -31,7 +30,7 @@ impl Walk {
     // Past the next term.
     pub fn next(self, ends: &[u32], posting_counts: &[u32], position_counts: &[u32]) -> Walk
         requires { ShapedFrom self ends.now posting_counts.now position_counts.now }
-        ensures { result ≡ next_of self (was ends) (was posting_counts) (was position_counts) }
+        ensures { result ≡ next_of self ends.now posting_counts.now position_counts.now }
     {
         let term = self.term;
         let posting = self.posting;

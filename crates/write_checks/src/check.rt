@@ -1,7 +1,6 @@
 // The writer's refusals of documents, one position, and one name.
 ghost use Rattle.std.specs.Prelude.{◌≡◌, length};
 ghost use Rattle.std.proofs.Math.Option.{none};
-ghost use Rattle.common.specs.Slices.{was};
 ghost use Rattle.segment.specs.Metadata.{document};
 ghost use Rattle.segment.specs.Steps.{checked, earlier};
 ghost use Rattle.common.specs.Lists.{paired};
@@ -19,7 +18,7 @@ use utf8::characters::is_utf8;
 // The documents' ids rise.
 pub fn check_document_lengths(ids: &[u32], lengths: &[u32]) -> Checked
     requires { length ids.now ≡ length lengths.now }
-    ensures { result ≡ checked (check_documents none (paired document (was ids) (was lengths))) }
+    ensures { result ≡ checked (check_documents none (paired document ids.now lengths.now)) }
 {
     let mut i: usize = 1;
     while i < ids.len() {
@@ -51,7 +50,7 @@ pub fn check_position(first: bool, previous: TokenPos, position: TokenPos, len: 
 
 // A term's name, in document 01's order of tests: UTF-8, empty, order. The first has no name before it.
 pub fn check_name(first: bool, previous: &[u8], name: &[u8]) -> Checked
-    ensures { result ≡ checked (name_checks (earlier first (was previous)) (was name)) }
+    ensures { result ≡ checked (name_checks (earlier first previous.now) name.now) }
 {
     if !is_utf8(name) {
         return Checked::Refused(invalid_utf8());

@@ -1,7 +1,6 @@
 // A posting with its positions, checked and measured in one pass: the writer's refusal, or how many bytes it takes.
 ghost use Rattle.std.specs.Prelude.{◌≡◌, ◌-◌, ◌≤◌, length};
 ghost use Rattle.std.proofs.Math.Option.{none, some};
-ghost use Rattle.common.specs.Slices.{was};
 ghost use Rattle.common.specs.Lists.{paired};
 ghost use Rattle.segment.specs.Metadata.{document};
 ghost use Rattle.segment.specs.Steps.{earlier};
@@ -42,7 +41,7 @@ pub fn gap_from(previous: u32, value: u32) -> u32
 // The positions of a posting. The gap of the first is taken from 0.
 fn measure_positions(positions: &[u32], len: u32) -> Measured
     requires { length positions.now ≤ 16777216 }
-    ensures { result ≡ measured (check_positions len none (was positions)) (length (position_bytes none (was positions))) }
+    ensures { result ≡ measured (check_positions len none positions.now) (length (position_bytes none positions.now)) }
 {
     let mut size: usize = 0;
     let mut previous = TokenPos(0);
@@ -71,8 +70,8 @@ pub fn measure_posting(
     positions: &[u32],
 ) -> Measured
     requires { RisingByIndex ids.now × (length ids.now ≡ length lengths.now) × (length positions.now ≤ 16777216) }
-    ensures { result ≡ measured (check_posting (paired document (was ids) (was lengths)) (earlier first previous.0)
-        (posting doc.0 (was positions))) (length (posting_bytes (some previous.0) (posting doc.0 (was positions)))) }
+    ensures { result ≡ measured (check_posting (paired document ids.now lengths.now) (earlier first previous.0)
+        (posting doc.0 positions.now)) (length (posting_bytes (some previous.0) (posting doc.0 positions.now))) }
 {
     let KnownLength::Known(len) = known_len(ids, lengths, doc, near) else {
         return Measured::Refused(invalid_layout(UNKNOWN_DOCUMENT));

@@ -1,6 +1,5 @@
 // Kinds 12 and 11: how long the lists are, and how they fit together.
 ghost use Rattle.std.specs.Prelude.{◌≡◌, ◌≤◌, length};
-ghost use Rattle.common.specs.Slices.{was};
 ghost use Rattle.common.specs.Lists.{total};
 ghost use Rattle.calls.specs.Given.{given_lists};
 ghost use Rattle.calls.specs.Checks.{small, shaped};
@@ -12,7 +11,7 @@ use segment::texts::ends_fit;
 // The sum of the counts. Of at most 16,777,216 numbers of 32 bits it never wraps.
 pub fn total_of(counts: &[u32]) -> u64
     requires { length counts.now ≤ 16777216 }
-    ensures { result ≡ total (was counts) }
+    ensures { result ≡ total counts.now }
 {
     let mut sum: u64 = 0;
     let mut i: usize = 0;

@@ -1,5 +1,4 @@
 // Directory entries and the header: lengths and checksums of what the slice already holds.
-ghost use Rattle.common.specs.Slices.{was, left};
 ghost use Rattle.write_frame.specs.Steps.{EntryRoom, EntryStored, HeaderRoom, HeaderStored};
 
 use crate::numbers::{put_bytes, put_four_u32, put_four_u64, put_u32, put_u64};
@@ -35,7 +34,7 @@ pub fn put_entry(
     run: u32,
 ) -> Past
     requires { EntryRoom out.old at name name_len lists list end }
-    ensures { EntryStored (was out) at name name_len lists list end df run result (left out) }
+    ensures { EntryStored out.old at name name_len lists list end df run result out.new }
 {
     let both = crc32_and_on(&out[list..end], run);
     let next = put_u32(out, at, name as u32);
@@ -53,7 +52,7 @@ pub fn put_entry(
 // The header, over sections that the slice already holds. The lists' checksum is given: it was taken as they were stored.
 pub fn put_header(out: &mut [u8], documents: u32, terms: u32, lists_crc: u32, at: Offsets)
     requires { HeaderRoom out.old lists_crc at }
-    ensures { HeaderStored documents terms at (was out) (left out) }
+    ensures { HeaderStored documents terms at out.old out.new }
 {
     let names = at.names;
     let metadata = at.metadata;

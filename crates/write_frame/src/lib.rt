@@ -2,5 +2,7 @@
 //   numbers   numbers and byte strings stored
 //   frame     an entry, the header
 // Crate segment defines every byte (specs/Written.antt).
+#![tactic(auto)]
+
 pub mod frame;
 pub mod numbers;

@@ -1,6 +1,5 @@
 // Numbers of fixed width and byte strings stored from an offset on. Each function answers the offset past what it stored.
 ghost use Rattle.std.specs.Prelude.{◌+◌, ◌≤◌, length};
-ghost use Rattle.common.specs.Slices.{was, left};
 ghost use Rattle.segment.specs.Written.{fixed};
 ghost use Rattle.common.specs.Stores.{Stored};
 ghost use Rattle.write_frame.specs.Steps.{four};
@@ -8,7 +7,7 @@ ghost use Rattle.write_frame.specs.Steps.{four};
 // A u32, little-endian.
 pub fn put_u32(out: &mut [u8], at: usize, x: u32) -> usize
     requires { at + 4 ≤ length out.old }
-    ensures { Stored (fixed 4 x) at (was out) result (left out) }
+    ensures { Stored (fixed 4 x) at out.old result out.new }
 {
     out[at] = (x % 256) as u8;
     out[at + 1] = (x / 256 % 256) as u8;
@@ -20,7 +19,7 @@ pub fn put_u32(out: &mut [u8], at: usize, x: u32) -> usize
 // A u64, little-endian.
 pub fn put_u64(out: &mut [u8], at: usize, x: usize) -> usize
     requires { at + 8 ≤ length out.old }
-    ensures { Stored (fixed 8 x) at (was out) result (left out) }
+    ensures { Stored (fixed 8 x) at out.old result out.new }
 {
     let next = put_u32(out, at, (x % 4294967296) as u32);
     put_u32(out, next, (x / 4294967296) as u32)
@@ -29,7 +28,7 @@ pub fn put_u64(out: &mut [u8], at: usize, x: usize) -> usize
 // Four u32 one behind the other.
 pub fn put_four_u32(out: &mut [u8], at: usize, w: u32, x: u32, y: u32, z: u32) -> usize
     requires { at + 16 ≤ length out.old }
-    ensures { Stored (four 4 w x y z) at (was out) result (left out) }
+    ensures { Stored (four 4 w x y z) at out.old result out.new }
 {
     let second = put_u32(out, at, w);
     let third = put_u32(out, second, x);
@@ -40,7 +39,7 @@ pub fn put_four_u32(out: &mut [u8], at: usize, w: u32, x: u32, y: u32, z: u32) -
 // Four u64 one behind the other.
 pub fn put_four_u64(out: &mut [u8], at: usize, w: usize, x: usize, y: usize, z: usize) -> usize
     requires { at + 32 ≤ length out.old }
-    ensures { Stored (four 8 w x y z) at (was out) result (left out) }
+    ensures { Stored (four 8 w x y z) at out.old result out.new }
 {
     let second = put_u64(out, at, w);
     let third = put_u64(out, second, x);
@@ -51,7 +50,7 @@ pub fn put_four_u64(out: &mut [u8], at: usize, w: usize, x: usize, y: usize, z: 
 // A byte string.
 pub fn put_bytes(out: &mut [u8], at: usize, bytes: &[u8]) -> usize
     requires { at + length bytes.now ≤ length out.old }
-    ensures { Stored (was bytes) at (was out) result (left out) }
+    ensures { Stored bytes.now at out.old result out.new }
 {
     let mut i: usize = 0;
     while i < bytes.len() {

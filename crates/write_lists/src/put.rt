@@ -1,7 +1,6 @@
 // Metadata and posting lists stored from an offset on. Each function answers the offset past what it stored.
 ghost use Rattle.std.specs.Prelude.{◌≡◌, ◌+◌, ◌≤◌, length};
 ghost use Rattle.std.proofs.Math.Option.{none};
-ghost use Rattle.common.specs.Slices.{was, left};
 ghost use Rattle.segment.specs.Metadata.{document};
 ghost use Rattle.common.specs.Lists.{paired, total};
 ghost use Rattle.segment.specs.Written.{metadata_bytes, position_bytes, postings_bytes};
@@ -16,7 +15,7 @@ use write_checks::measure::gap_from;
 pub fn put_metadata(ids: &[u32], lengths: &[u32], out: &mut [u8], at: usize) -> usize
     requires { (length ids.now ≡ length lengths.now)
         × (at + length (metadata_bytes none (paired document ids.now lengths.now)) ≤ length out.old) }
-    ensures { Stored (metadata_bytes none (paired document (was ids) (was lengths))) at (was out) result (left out) }
+    ensures { Stored (metadata_bytes none (paired document ids.now lengths.now)) at out.old result out.new }
 {
     let mut next = at;
     let mut previous: u32 = 0;
@@ -34,7 +33,7 @@ pub fn put_metadata(ids: &[u32], lengths: &[u32], out: &mut [u8], at: usize) -> 
 // The positions of a posting. Each is stored as it is taken: none waits for the next.
 pub fn put_positions(positions: &[u32], out: &mut [u8], at: usize) -> usize
     requires { at + length (position_bytes none positions.now) ≤ length out.old }
-    ensures { Stored (position_bytes none (was positions)) at (was out) result (left out) }
+    ensures { Stored (position_bytes none positions.now) at out.old result out.new }
 {
     let mut next = at;
     let mut previous: u32 = 0;
@@ -58,7 +57,7 @@ pub fn put_postings(
 ) -> usize
     requires { (length posting_ids.now ≡ length counts.now) × (total counts.now ≤ length positions.now)
         × (at + length (postings_bytes none (postings_in posting_ids.now counts.now positions.now)) ≤ length out.old) }
-    ensures { Stored (postings_bytes none (postings_in (was posting_ids) (was counts) (was positions))) at (was out) result (left out) }
+    ensures { Stored (postings_bytes none (postings_in posting_ids.now counts.now positions.now)) at out.old result out.new }
 {
     let mut next = at;
     let mut previous: u32 = 0;

@@ -1,7 +1,6 @@
 // A hint: the index of an id among rising ids. `known_len` tests it and can do without, so the hint affects speed only: nothing is promised
 // of it, and nothing has to be proved of how it is found.
 ghost use Rattle.std.specs.Prelude.{◌≤◌, length};
-ghost use Rattle.common.specs.Slices.{was};
 
 use segment::ids::DocId;
 
@@ -10,7 +9,7 @@ const NEXT: usize = 8;
 
 // How many of the ids are lower. Every one is compared, so that the processor has no branch to predict.
 fn lower_of(ids: &[u32], id: DocId) -> usize
-    ensures { result ≤ length (was ids) }
+    ensures { result ≤ length ids.now }
 {
     let mut lower: usize = 0;
     let mut i: usize = 0;

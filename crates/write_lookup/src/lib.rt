@@ -2,5 +2,7 @@
 //   lengths   the length, where the ids rise: at a hint, or else by binary search
 //   hints     where to look first
 // specs/Steps.antt says what it answers and rests on.
+#![tactic(auto)]
+
 pub mod hints;
 pub mod lengths;

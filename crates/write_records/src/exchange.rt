@@ -2,7 +2,6 @@
 // the records to, and everything that was lent must be as before on every outcome. Copied into the two lists, the records would overwrite
 // what these held; exchanged, they keep it. The exchange is its own inverse, so one walk takes the records apart and puts everything back.
 ghost use Rattle.std.specs.Prelude.{◌≡◌, length};
-ghost use Rattle.common.specs.Slices.{was, left};
 ghost use Rattle.write_records.specs.Steps.{three, exchanged, Least};
 
 use segment::ids::DocId;
@@ -34,7 +33,7 @@ fn shortest(a: usize, b: usize, c: usize) -> usize
 // Exchanges, index by index, a record's id with the number in `ids` and its length with the number in `lengths`, as far as the shortest of
 // the three goes. Done twice, it changes nothing.
 pub fn exchange(documents: &mut [DocumentLength], ids: &mut [u32], lengths: &mut [u32])
-    ensures { three (left documents) (left ids) (left lengths) ≡ exchanged (was documents) (was ids) (was lengths) }
+    ensures { three documents.new ids.new lengths.new ≡ exchanged documents.old ids.old lengths.old }
 {
     let n = shortest(documents.len(), ids.len(), lengths.len());
     let mut i: usize = 0;

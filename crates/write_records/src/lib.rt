@@ -2,5 +2,7 @@
 //   exchange  records and two lists of numbers exchanged, index by index
 //   write     the entry
 // Crate calls defines what the entry answers (specs/Writing.antt); specs/Promise.antt here says what it leaves in everything that was lent.
+#![tactic(auto)]
+
 pub mod exchange;
 pub mod write;

@@ -1,7 +1,6 @@
 // The entry: the records are exchanged with the two lent lists, the writer is called on these, and everything is exchanged back. So the
 // records are lent as `&mut`, and yet are as before on every outcome, as are the two lists.
 ghost use Rattle.std.specs.Prelude.{◌≡◌};
-ghost use Rattle.common.specs.Slices.{was, left};
 ghost use Rattle.segment.specs.Steps.{checked};
 ghost use Rattle.calls.specs.Given.{given_lists, lists};
 ghost use Rattle.write_records.specs.Steps.{misfit, check_places as places_checks, WroteApart};
@@ -26,8 +25,8 @@ fn refuse_places(
     positions: &[u32],
 ) -> Checked
     ensures { result ≡ checked (misfit count
-        (lists (was ends) (was ends) (was text) (was ends) (was posting_counts) (was posting_ids) (was position_counts)
-        (was positions))) }
+        (lists ends.now ends.now text.now ends.now posting_counts.now posting_ids.now position_counts.now
+        positions.now)) }
 {
     if LIMIT < count {
         return Checked::Refused(too_large());
@@ -101,7 +100,7 @@ fn write_apart(
     out: &mut [u8],
 ) -> Written
     ensures { WroteApart count (given_lists ids lengths text ends posting_counts posting_ids position_counts positions)
-        (was out) result (left out) }
+        out.old result out.new }
 {
     if let Checked::Refused(x) = check_places(
         count,
@@ -142,9 +141,9 @@ pub fn write_positional_segment_records(
     positions: &[u32],
     out: &mut [u8],
 ) -> Written
-    ensures { WroteRecords (taken_apart (was documents) (was text) (was ends) (was posting_counts) (was posting_ids)
-        (was position_counts) (was positions)) (was documents) (was ids) (was lengths) (was out) result (left documents) (left ids)
-        (left lengths) (left out) }
+    ensures { WroteRecords (taken_apart documents.old text.now ends.now posting_counts.now posting_ids.now
+        position_counts.now positions.now) documents.old ids.old lengths.old out.old result documents.new ids.new
+        lengths.new out.new }
 {
     exchange(documents, ids, lengths);
     let written = write_apart(

@@ -2,7 +2,6 @@
 // the length that is needed, and leaves the slice as it was.
 ghost use Rattle.std.specs.Prelude.{◌≡◌, ◌≤◌, length};
 ghost use Rattle.std.proofs.Math.Option.{none};
-ghost use Rattle.common.specs.Slices.{was};
 ghost use Rattle.segment.specs.Metadata.{document};
 ghost use Rattle.common.specs.Lists.{paired};
 ghost use Rattle.segment.specs.Written.{metadata_bytes};
@@ -13,7 +12,7 @@ use write_checks::measure::gap_from;
 // The metadata's length. The gap of the first id is taken from 0.
 pub fn metadata_len(ids: &[u32], lengths: &[u32]) -> usize
     requires { (length ids.now ≡ length lengths.now) × (length ids.now ≤ 16777216) }
-    ensures { result ≡ length (metadata_bytes none (paired document (was ids) (was lengths))) }
+    ensures { result ≡ length (metadata_bytes none (paired document ids.now lengths.now)) }
 {
     let mut size: usize = 0;
     let mut previous: u32 = 0;

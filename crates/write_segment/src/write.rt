@@ -1,7 +1,6 @@
 // The writer. Everything is checked and measured before the first byte is stored, so a refusal leaves the slice as it was. A list is stored
 // before its directory entry, and all sections before the header, since their checksums are taken of what the slice then holds. A list is
 // read once for two checksums: its own, and that of all lists.
-ghost use Rattle.common.specs.Slices.{was, left};
 ghost use Rattle.calls.specs.Given.{given_lists, lists};
 ghost use Rattle.write_segment.specs.Steps.{TermsRoom, TermsStored, SegmentRoom, SegmentStored};
 ghost use Rattle.write_segment.specs.Promise.{Wrote};
@@ -35,7 +34,7 @@ fn put_terms(
     requires { TermsRoom (lists ids.now lengths.now text.now ends.now posting_counts.now posting_ids.now
         position_counts.now positions.now) out.old lists_at }
     ensures { TermsStored (given_lists ids lengths text ends posting_counts posting_ids position_counts positions)
-        lists_at (was out) result (left out) }
+        lists_at out.old result out.new }
 {
     let mut walk = Walk::start();
     let mut list = lists_at;
@@ -81,7 +80,7 @@ fn put_segment(
     requires { SegmentRoom (lists ids.now lengths.now text.now ends.now posting_counts.now posting_ids.now
         position_counts.now positions.now) out.old at }
     ensures { SegmentStored (given_lists ids lengths text ends posting_counts posting_ids position_counts positions)
-        (was out) (left out) }
+        out.old out.new }
 {
     let lists_crc = put_terms(
         ids,
@@ -113,8 +112,8 @@ pub fn write_positional_segment(
     positions: &[u32],
     out: &mut [u8],
 ) -> Written
-    ensures { Wrote (given_lists ids lengths text ends posting_counts posting_ids position_counts positions) (was out) result
-        (left out) }
+    ensures { Wrote (given_lists ids lengths text ends posting_counts posting_ids position_counts positions) out.old result
+        out.new }
 {
     let size = match measure_lists(
         ids,
