@@ -4,7 +4,7 @@ ghost use Rattle.ask_match.specs.Steps.{Passed};
 use common::widths::wide;
 use read_cursors::positions::Positions;
 
-#[derive(Drop)]
+#[derive(Clone, Copy)]
 pub struct Moved {
     pub to: Positions,
     pub passed: u32,

@@ -11,7 +11,7 @@ use read_terms::find::{TermFound, TermList};
 // `taken` names were taken; they name `different` terms. In the tables, the name with index i names term slot[i]; term k's entry is
 // entry[k], its list is start[k], end[k], df[k], checksum[k], and it is named wanted[k] times, all zero at first. `absent`: some name has
 // no term.
-#[derive(Drop)]
+#[derive(Clone, Copy)]
 pub struct Named {
     pub taken: usize,
     pub different: usize,

@@ -8,7 +8,7 @@ use segment::replies::{BarRead, Counted, DocFreq, Imported, Length, Opened, Term
 
 // kind 0: accepted, and first to fourth have the answer's numbers, 0 where there are fewer. Else a refusal, and all four are 0.
 #[repr(C)]
-#[derive(Drop)]
+#[derive(Clone, Copy)]
 pub struct Reply {
     pub kind: u32,
     pub which: u32,

@@ -72,6 +72,7 @@ two_pass_exactly a b = (
     both : IsUtf8 a → IsUtf8 b → (n : List ℕ) → n ∈ (a ∷ b ∷ []) → IsUtf8 n
     both u v n (inl e) = rw e u
     both u v n (inr (inl e)) = rw e v
+    both u v n (inr (inr x)) = elim x [ ]
 
 -- what the code goes by behind the checks
 pub text_fits : (text ends : List ℕ) → Passed ≡ checked (check_question text ends)

@@ -13,7 +13,7 @@ use segment::refusal::Refusal;
 use segment::replies::{Imported, ListTotals};
 
 // The importer's refusal, or how much was imported and what writing and asking answered.
-#[derive(Drop)]
+#[derive(Clone, Copy)]
 pub enum ImportAsked {
     NotImported(Refusal),
     Asked(ListTotals, Asked),

@@ -8,7 +8,7 @@ use segment::replies::{Counted, Written};
 use write_segment::write::write_positional_segment;
 
 // A phrase; names near one another within a window, in the order named if the flag is set, else in any; two names near one another.
-#[derive(Drop)]
+#[derive(Clone, Copy)]
 pub enum Question {
     Phrase,
     Near(u32, bool),
@@ -16,7 +16,7 @@ pub enum Question {
 }
 
 // The writer's refusal, or how many bytes were written and what the search answered.
-#[derive(Drop)]
+#[derive(Clone, Copy)]
 pub enum Asked {
     NotWritten(Refusal),
     Answer(usize, Counted),

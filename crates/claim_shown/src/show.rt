@@ -9,7 +9,7 @@ use show_sheet::sheet::bar_sheet;
 use write_segment::write::write_positional_segment;
 
 // The writer's refusal, or how many bytes were written and what the sheet's call answered.
-#[derive(Drop)]
+#[derive(Clone, Copy)]
 pub enum Shown {
     NotWritten(Refusal),
     Answer(usize, Counted),

@@ -58,7 +58,7 @@ pub fn crc32(s: &[u8]) -> u32
 }
 
 // Of bytes that are a part of a longer run: their own CRC-32, and the run's remainder past them.
-#[derive(Drop)]
+#[derive(Clone, Copy)]
 pub struct Both {
     pub own: u32,
     pub run: u32,

@@ -8,7 +8,7 @@ use segment::refusal::Refusal;
 // A refusal, or the level: 1 where the segment was opened, 2 where every list was decoded too. Then the layout. Of a refusal all after
 // its three numbers are 0; of a layout the three are.
 #[repr(C)]
-#[derive(Drop)]
+#[derive(Clone, Copy)]
 pub struct Handle {
     pub kind: u32,
     pub which: u32,

@@ -8,20 +8,20 @@ ghost use Rattle.leb128.specs.Promise.{decoded, decoded_at};
 use common::widths::byte;
 
 // An offset in a slice of bytes, where the next number starts.
-#[derive(Drop)]
+#[derive(Clone, Copy)]
 pub struct Reader {
     pub at: usize,
 }
 
 // A number that was read, and the reader advanced past it.
-#[derive(Drop)]
+#[derive(Clone, Copy)]
 pub struct Number {
     pub value: u32,
     pub next: Reader,
 }
 
 // What a reader finds: a number, or no number that document 01 accepts.
-#[derive(Drop)]
+#[derive(Clone, Copy)]
 pub enum Decoded {
     Value(Number),
     Refused,

@@ -9,7 +9,7 @@ use midi_read::track::{Reader, Stepped};
 use segment::refusal::{Refusal, bar_too_far, midi_file};
 
 // The number of bars, or the first refusal.
-#[derive(Drop)]
+#[derive(Clone, Copy)]
 pub enum Tallied {
     Bars(u64),
     Refused(Refusal),

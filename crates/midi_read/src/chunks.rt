@@ -10,7 +10,7 @@ use segment::names::starts_with;
 use segment::refusal::{LIMIT, Refusal, midi_file, too_large};
 
 // The ticks to a step, or why the events are not read.
-#[derive(Drop)]
+#[derive(Clone, Copy)]
 pub enum Chunks {
     Ticks(u64),
     Refused(Refusal),

@@ -10,7 +10,7 @@ use common::widths::byte;
 use segment::refusal::{Refusal, midi_file};
 
 // A place in a file, where a delta time stands: the running status, 0 for none, and the tick so far.
-#[derive(Drop)]
+#[derive(Clone, Copy)]
 pub struct Reader {
     pub at: usize,
     pub running: u32,
@@ -18,7 +18,7 @@ pub struct Reader {
 }
 
 // A note-on with velocity above 0.
-#[derive(Drop)]
+#[derive(Clone, Copy)]
 pub struct Hit {
     pub tick: u64,
     pub note: u32,
@@ -27,7 +27,7 @@ pub struct Hit {
 
 // What stands at a reader: a hit or another event, each with the reader moved on past it; the end of the track, with the place past it; or
 // no event.
-#[derive(Drop)]
+#[derive(Clone, Copy)]
 pub enum Stepped {
     Sounds(Hit, Reader),
     Silent(Reader),
@@ -36,7 +36,7 @@ pub enum Stepped {
 }
 
 // A variable-length number with the place past it, or none.
-#[derive(Drop)]
+#[derive(Clone, Copy)]
 pub enum Numbered {
     Value(u32, usize),
     Missing,

@@ -8,7 +8,7 @@ use common::widths::long;
 use pad_words::layout::VELOCITY_UNIT;
 
 // How many postings the sound has, and positions in all.
-#[derive(Drop)]
+#[derive(Clone, Copy)]
 pub struct Gathered {
     pub postings: usize,
     pub positions: usize,

@@ -5,7 +5,7 @@ ghost use Rattle.pad_words.specs.Steps.{place_from, Inside};
 
 use common::widths::long;
 
-#[derive(Drop)]
+#[derive(Clone, Copy)]
 pub enum Place {
     Held(usize),
     Free(usize),

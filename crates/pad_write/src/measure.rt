@@ -18,7 +18,7 @@ use write_checks::measure::Measured;
 
 // The sounds with hits so far: how many, the bytes of their names and posting lists, and where the last one's name lies in the text. The
 // next sound's name starts at `from`, whether or not it has hits.
-#[derive(Drop)]
+#[derive(Clone, Copy)]
 pub struct Tally {
     pub terms: usize,
     pub names: usize,
@@ -29,7 +29,7 @@ pub struct Tally {
 }
 
 // The sounds so far, or the first refusal.
-#[derive(Drop)]
+#[derive(Clone, Copy)]
 pub enum Tallied {
     Next(Tally),
     Refused(Refusal),

@@ -16,7 +16,7 @@ use write_lists::put::put_postings;
 
 // Where the next list and its directory entry are stored, how many bytes of names are stored, the remainder of the lists' checksum, and
 // where the next sound's name starts in the text.
-#[derive(Drop)]
+#[derive(Clone, Copy)]
 pub struct Progress {
     pub list: usize,
     pub entry: usize,

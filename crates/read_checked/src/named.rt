@@ -10,13 +10,13 @@ use segment::checked::Checked;
 use segment::refusal::Refusal;
 
 // Where a list starts in the segment, and how many postings it has.
-#[derive(Drop)]
+#[derive(Clone, Copy)]
 pub struct ListPlace {
     pub start: usize,
     pub df: u32,
 }
 
-#[derive(Drop)]
+#[derive(Clone, Copy)]
 pub enum Named {
     List(ListPlace),
     Absent,

@@ -17,21 +17,21 @@ use segment::refusal::{
 };
 
 // A document that was read, and the advanced reader.
-#[derive(Drop)]
+#[derive(Clone, Copy)]
 pub struct DocumentRead {
     pub id: DocId,
     pub len: u32,
     pub next: Reader,
 }
 
-#[derive(Drop)]
+#[derive(Clone, Copy)]
 pub enum DocumentStep {
     Next(DocumentRead),
     Refused(Refusal),
 }
 
 // What is known at once of the document at a reader.
-#[derive(Drop)]
+#[derive(Clone, Copy)]
 pub enum ShortDocument {
     Sure(DocumentRead),
     Unsure,
@@ -105,7 +105,7 @@ pub fn read_document(meta: &[u8], from: Reader, index: u32, previous: DocId) -> 
 
 // A cursor over the metadata: `remaining` documents are to come, the first of them is `id` with length `len`, and the next one starts at
 // offset `at`.
-#[derive(Drop)]
+#[derive(Clone, Copy)]
 pub struct Documents {
     pub at: usize,
     pub remaining: u32,

@@ -12,7 +12,7 @@ use segment::ids::TokenPos;
 use segment::refusal::{NON_INCREASING_POSITION, POSITION_OVERFLOW};
 
 // A cursor over a posting's positions: `remaining` are to come, the first of them is `pos`, and the gap after it starts at offset `at`.
-#[derive(Drop)]
+#[derive(Clone, Copy)]
 pub struct Positions {
     pub at: usize,
     pub remaining: u32,

@@ -14,7 +14,7 @@ use segment::refusal::{DOC_ID_OVERFLOW, NON_INCREASING_POSTING_ID};
 
 // A cursor over a list: `remaining` postings are to come, the first of them is of document `doc`, and its `count` positions start at
 // offset `at`.
-#[derive(Drop)]
+#[derive(Clone, Copy)]
 pub struct Postings {
     pub at: usize,
     pub count: u32,
@@ -23,7 +23,7 @@ pub struct Postings {
 }
 
 // What is known at once of the cursor advanced by one posting.
-#[derive(Drop)]
+#[derive(Clone, Copy)]
 pub enum ShortPosting {
     Sure(Postings),
     Unsure,

@@ -11,7 +11,7 @@ use common::widths::long;
 use leb128::varint::{Decoded, Number, Reader};
 use segment::refusal::{POSTINGS, Refusal, invalid_layout, invalid_varint};
 
-#[derive(Drop)]
+#[derive(Clone, Copy)]
 pub enum ValueStep {
     Next(Number),
     Refused(Refusal),

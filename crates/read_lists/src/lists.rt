@@ -19,7 +19,7 @@ use segment::refusal::{
 };
 
 // The reader after positions that were checked.
-#[derive(Drop)]
+#[derive(Clone, Copy)]
 pub enum PositionsStep {
     Next(Reader),
     Refused(Refusal),
@@ -60,7 +60,7 @@ fn read_positions(list: &[u8], from: Reader, count: u32, place: u32, len: u32) -
 }
 
 // A posting up to its positions, and the metadata's cursor at its document: the next posting's search starts there.
-#[derive(Drop)]
+#[derive(Clone, Copy)]
 pub struct Head {
     pub doc: DocId,
     pub count: u32,
@@ -68,7 +68,7 @@ pub struct Head {
     pub documents: Documents,
 }
 
-#[derive(Drop)]
+#[derive(Clone, Copy)]
 pub enum HeadStep {
     Next(Head),
     Refused(Refusal),
@@ -123,7 +123,7 @@ fn read_head(
 }
 
 // How many positions a checked list has, in all or in one document.
-#[derive(Drop)]
+#[derive(Clone, Copy)]
 pub enum Tally {
     Positions(usize),
     Refused(Refusal),

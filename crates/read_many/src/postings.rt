@@ -82,7 +82,7 @@ fn past_positions(list: &[u8], at: usize, len: u32) -> usize
 }
 
 // Where the check of a list stands: past the gap of a posting, whose document is doc; how many postings remain, with this one.
-#[derive(Drop)]
+#[derive(Clone, Copy)]
 pub struct Cursor {
     pub at: usize,
     pub doc: u32,

@@ -17,13 +17,13 @@ use segment::refusal::{
 use utf8::characters::is_utf8;
 
 // Where a name lies in the section of term bytes.
-#[derive(Drop)]
+#[derive(Clone, Copy)]
 pub struct NameRange {
     pub start: usize,
     pub end: usize,
 }
 
-#[derive(Drop)]
+#[derive(Clone, Copy)]
 pub enum EntryStep {
     Next(NameRange),
     Refused(Refusal),
@@ -150,7 +150,7 @@ fn compare_entry(dir: &[u8], names: &[u8], i: usize, name: &[u8]) -> Order
 }
 
 // The index of the entry with a name.
-#[derive(Drop)]
+#[derive(Clone, Copy)]
 pub enum TermEntry {
     At(usize),
     Absent,

@@ -15,7 +15,7 @@ use segment::refusal::{
 };
 
 // Where the parts of a segment lie. The directory starts at 72; each section ends where the next starts, the lists with the segment.
-#[derive(Drop)]
+#[derive(Clone, Copy)]
 pub struct Layout {
     pub documents: u32,
     pub terms: u32,
@@ -25,14 +25,14 @@ pub struct Layout {
 }
 
 // What the header's checks and the opening answer.
-#[derive(Drop)]
+#[derive(Clone, Copy)]
 pub enum Opening {
     Layout(Layout),
     Refused(Refusal),
 }
 
 // The offset where a range ends, or why there is no such range.
-#[derive(Drop)]
+#[derive(Clone, Copy)]
 pub enum RangeEnd {
     At(usize),
     Refused(Refusal),

@@ -18,7 +18,7 @@ use segment::ids::DocId;
 use segment::refusal::{TERM_POSTINGS, checksum_mismatch};
 
 // A term's list: its entry's index in the directory, its offsets in the segment, how many postings it has, its checksum.
-#[derive(Drop)]
+#[derive(Clone, Copy)]
 pub struct TermList {
     pub entry: usize,
     pub start: usize,
@@ -27,7 +27,7 @@ pub struct TermList {
     pub checksum: u32,
 }
 
-#[derive(Drop)]
+#[derive(Clone, Copy)]
 pub enum TermFound {
     List(TermList),
     Absent,

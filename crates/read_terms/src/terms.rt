@@ -51,14 +51,14 @@ pub fn df(bytes: &[u8], name: &[u8]) -> DocFreq
 
 // A term's list, decoded: its start, how many postings and positions it has. It was checked from its own bytes; cursors read it from
 // its start in the whole segment, so that one loop can hold cursors of many lists.
-#[derive(Drop)]
+#[derive(Clone, Copy)]
 pub struct DecodedList {
     pub start: usize,
     pub df: u32,
     pub positions: usize,
 }
 
-#[derive(Drop)]
+#[derive(Clone, Copy)]
 pub enum Decoding {
     List(DecodedList),
     Absent,

@@ -17,7 +17,7 @@ use replay_list::replies::same_reply;
 use segment::names::starts_with;
 
 // What the library answered: its kind, and whether reply and buffers are the case's.
-#[derive(Drop)]
+#[derive(Clone, Copy)]
 pub struct Outcome {
     pub call: u32,
     pub kind: u32,

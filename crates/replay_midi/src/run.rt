@@ -10,14 +10,14 @@ use replay_list::replies::same_reply;
 use segment::names::starts_with;
 
 // What the library answered: its kind, and whether reply and buffers are the case's.
-#[derive(Drop)]
+#[derive(Clone, Copy)]
 pub struct Outcome {
     pub kind: u32,
     pub same: bool,
 }
 
 // Buffer after buffer, in the order of the data: where the next one stands in the case, and whether all before it are the case's.
-#[derive(Drop)]
+#[derive(Clone, Copy)]
 struct Compared {
     at: usize,
     same: bool,

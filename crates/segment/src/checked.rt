@@ -2,7 +2,7 @@
 use crate::refusal::Refusal;
 
 // What a part that was checked answers.
-#[derive(Drop)]
+#[derive(Clone, Copy)]
 pub enum Checked {
     Passed,
     Refused(Refusal),

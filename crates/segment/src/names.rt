@@ -21,7 +21,7 @@ pub fn starts_with(s: &[u8], mark: &[u8]) -> bool
 }
 
 // The result of comparing two names in byte order.
-#[derive(Drop)]
+#[derive(Clone, Copy)]
 pub enum Order {
     Less,
     Equal,

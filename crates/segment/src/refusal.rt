@@ -8,7 +8,7 @@ ghost use Rattle.segment.specs.Refusals.{list_shape, too_large, no_room, midi_fi
 ghost use Rattle.segment.specs.Refusals.{unknown_bar, bar_too_long, already_held, pad_full, broken_pad, ids_not_rising};
 ghost use Rattle.segment.specs.Refusals.{velocity_range};
 
-#[derive(Drop)]
+#[derive(Clone, Copy)]
 pub struct Refusal {
     pub kind: u32,
     pub which: u32,

@@ -1,7 +1,7 @@
 // A bar's id, from decimal digits.
 use common::widths::{byte, wide};
 
-#[derive(Drop)]
+#[derive(Clone, Copy)]
 pub enum BarId {
     Id(u32),
     NotOne,

@@ -11,13 +11,13 @@ use segment::refusal::{Refusal, bar_too_long, unknown_bar};
 // How many steps a line of the sheet has.
 pub const STEPS: u32 = 64;
 
-#[derive(Drop)]
+#[derive(Clone, Copy)]
 pub struct Bar {
     pub id: DocId,
     pub len: u32,
 }
 
-#[derive(Drop)]
+#[derive(Clone, Copy)]
 pub enum BarFound {
     Bar(Bar),
     Refused(Refusal),

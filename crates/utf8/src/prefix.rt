@@ -3,7 +3,7 @@ ghost use Rattle.utf8.specs.Promise.{IsPrefix};
 
 use crate::characters::char_len;
 
-#[derive(Drop)]
+#[derive(Clone, Copy)]
 pub struct Prefix {
     pub characters: usize,
     pub octets: usize,

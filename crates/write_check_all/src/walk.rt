@@ -6,7 +6,7 @@ use common::widths::long;
 use write_checks::shape::total_of;
 
 // The next term's index, and where its part of each flat list starts.
-#[derive(Drop)]
+#[derive(Clone, Copy)]
 pub struct Walk {
     pub term: usize,
     pub name: usize,

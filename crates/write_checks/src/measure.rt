@@ -21,7 +21,7 @@ use segment::refusal::{
 use write_lookup::lengths::{KnownLength, known_len};
 
 // How many bytes a part takes that passed its checks, or the first refusal.
-#[derive(Drop)]
+#[derive(Clone, Copy)]
 pub enum Measured {
     Size(usize),
     Refused(Refusal),

@@ -6,7 +6,7 @@ use crc32::checksum::{crc32, crc32_and_on};
 use segment::fixed::HEADER_SIZE;
 
 // The offsets where the sections start, and where the segment ends. The directory starts at 72.
-#[derive(Drop)]
+#[derive(Clone, Copy)]
 pub struct Offsets {
     pub names: usize,
     pub metadata: usize,
@@ -15,7 +15,7 @@ pub struct Offsets {
 }
 
 // The offset past an entry, and the remainder of the lists' checksum past its list.
-#[derive(Drop)]
+#[derive(Clone, Copy)]
 pub struct Past {
     pub entry: usize,
     pub run: u32,

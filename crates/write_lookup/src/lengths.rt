@@ -6,7 +6,7 @@ ghost use Rattle.write_lookup.specs.Steps.{known_means, RisingByIndex};
 
 use segment::ids::DocId;
 
-#[derive(Drop)]
+#[derive(Clone, Copy)]
 pub enum KnownLength {
     Known(u32),
     Unknown,

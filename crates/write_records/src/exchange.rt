@@ -8,7 +8,7 @@ use segment::ids::DocId;
 
 // Laid out as in C, and so is DocId: slices of these cross the C interface.
 #[repr(C)]
-#[derive(Drop)]
+#[derive(Clone, Copy)]
 pub struct DocumentLength {
     pub id: DocId,
     pub len: u32,
