@@ -4,7 +4,7 @@ use Rattle.segment.specs.declared.checked.Checked.TheVariants.{Passed}
 use Rattle.segment.specs.Steps.{checked}
 use Rattle.calls.specs.Lookups.{well_named}
 use Rattle.read_terms.specs.declared.find.TermFound.TheVariants as found
-use Rattle.read_terms.specs.Steps.{TermFound}
+use Rattle.read_terms.specs.Steps.{TermIsFound}
 use Rattle.handle.specs.Handles.{layout_of}
 use Rattle.read_checked.proofs.Own.{named_badly, named_nowhere, named_sure, named_decoded, named_refused}
 use Rattle.read_checked.proofs.named.named_list.Statement.{statement}
@@ -21,7 +21,7 @@ abbrev looked : tie.After-known-told2 → tie.After-layout-of
 looked k = k.before.before.before.before
 
 listed : (k : tie.After-known-told2) → let a = (entry (looked k).before).args in
-    TermFound a.bytes.now (layout_of a.h) a.name.now (found.List k.before.list.given.0.0)
+    TermIsFound a.bytes.now (layout_of a.h) a.name.now (found.List k.before.list.given.0.0)
 listed k = rw (k.before.list.given.1, (looked k).layout_of.ensures) at k.before.before.before.find-term.ensures
 
 check-name-requires : tie.Need-check-name-requires

@@ -1,7 +1,7 @@
 use native.Mathlib.Omega.{arith}
 use borrow.Author.Rules.{rules}
 use Rattle.read_terms.specs.declared.terms.DecodedList.{DecodedList}
-use Rattle.read_terms.specs.Steps.{DecodedList}
+use Rattle.read_terms.specs.Steps.{ListIsDecoded}
 use Rattle.read_positions.proofs.Seeking.{no_list, positions_stopped, not_listed, places_no_room, places_fit, positions_filled}
 use Rattle.read_positions.proofs.postings.positions.Statement.{statement}
 use Rattle.read_positions.proofs.postings.positions.Tie as tie
@@ -14,7 +14,7 @@ abbrev list : tie.After-known-told → DecodedList
 list k = k.before.list.given.0.0
 
 decoded : (k : tie.After-known-told)
-    → DecodedList (entry k).args.bytes.now (entry k).args.name.now (list k).start (list k).df (list k).positions
+    → ListIsDecoded (entry k).args.bytes.now (entry k).args.name.now (list k).start (list k).df (list k).positions
 decoded k = rw k.before.list.given.1 at k.before.before.before.decode-term.ensures
 
 abbrev asked : tie.After-seek → tie.After-known-told

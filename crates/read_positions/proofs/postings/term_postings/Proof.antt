@@ -1,7 +1,7 @@
 use native.Mathlib.Omega.{arith}
 use borrow.Author.Rules.{rules}
 use Rattle.read_terms.specs.declared.terms.DecodedList.{DecodedList}
-use Rattle.read_terms.specs.Steps.{DecodedList}
+use Rattle.read_terms.specs.Steps.{ListIsDecoded}
 use Rattle.read_terms.proofs.Answering.{spots_many}
 use Rattle.read_positions.proofs.Answering.{positions_many, postings_none, postings_stopped, ids_no_room, counts_no_room}
 use Rattle.read_positions.proofs.Answering.{positions_no_room, postings_filled}
@@ -16,7 +16,7 @@ abbrev list : tie.After-known-told → DecodedList
 list k = k.before.list.given.0.0
 
 decoded : (k : tie.After-known-told)
-    → DecodedList (entry k).args.bytes.now (entry k).args.name.now (list k).start (list k).df (list k).positions
+    → ListIsDecoded (entry k).args.bytes.now (entry k).args.name.now (list k).start (list k).df (list k).positions
 decoded k = rw k.before.list.given.1 at k.before.before.before.decode-term.ensures
 
 decode-term-requires : tie.Need-decode-term-requires

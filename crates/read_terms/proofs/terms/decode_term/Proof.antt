@@ -7,7 +7,7 @@ use Rattle.read_open.specs.Opened.{Opens}
 use Rattle.read_open.proofs.Fitting.{own_fits}
 use Rattle.calls.specs.Lookups.{well_named}
 use Rattle.read_terms.specs.declared.find.TermFound.TheVariants as found
-use Rattle.read_terms.specs.Steps.{TermFound}
+use Rattle.read_terms.specs.Steps.{TermIsFound}
 use Rattle.read_terms.proofs.Asking.{list_unnamed, list_shut, list_absent, list_decoded, list_refused}
 use Rattle.read_terms.proofs.terms.decode_term.Statement.{statement}
 use Rattle.read_terms.proofs.terms.decode_term.Tie as tie
@@ -26,7 +26,7 @@ abbrev listed : tie.After-known-told4 → tie.After-known-told2
 listed d = d.before.before.before.before
 
 found_list : (d : tie.After-known-told4) → let k = listed d in
-    TermFound (entry k).args.bytes.now k.before.at.given.0.0 (entry k).args.name.now
+    TermIsFound (entry k).args.bytes.now k.before.at.given.0.0 (entry k).args.name.now
     (found.List d.before.list.given.0.0)
 found_list d = rw d.before.list.given.1 at d.before.before.before.find-term.ensures
 

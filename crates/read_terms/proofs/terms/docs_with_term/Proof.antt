@@ -1,7 +1,7 @@
 use native.Mathlib.Omega.{arith}
 use borrow.Author.Rules.{rules}
 use Rattle.read_terms.specs.declared.terms.DecodedList.{DecodedList}
-use Rattle.read_terms.specs.Steps.{DecodedList}
+use Rattle.read_terms.specs.Steps.{ListIsDecoded}
 use Rattle.read_terms.proofs.Answering.{spots_many, docs_none, docs_stopped, docs_no_room, docs_filled}
 use Rattle.read_terms.proofs.terms.docs_with_term.Statement.{statement}
 use Rattle.read_terms.proofs.terms.docs_with_term.Tie as tie
@@ -14,7 +14,7 @@ abbrev list : tie.After-known-told → DecodedList
 list k = k.before.list.given.0.0
 
 decoded : (k : tie.After-known-told)
-    → DecodedList (entry k).args.bytes.now (entry k).args.name.now (list k).start (list k).df (list k).positions
+    → ListIsDecoded (entry k).args.bytes.now (entry k).args.name.now (list k).start (list k).df (list k).positions
 decoded k = rw k.before.list.given.1 at k.before.before.before.decode-term.ensures
 
 decode-term-requires : tie.Need-decode-term-requires
