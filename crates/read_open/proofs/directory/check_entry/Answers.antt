@@ -66,14 +66,6 @@ returns-in-Refused c =
 pub slice_bounds-is_utf8-count : goal.slice_bounds-is_utf8-count
 slice_bounds-is_utf8-count c = omega (arith, (inside c).in_order)
 
--- ⚠ no such goal
--- part-is-utf8-start : tie.Need-slice-bounds-is-utf8-start
--- part-is-utf8-start c = omega (arith, (inside c).in_order)
-
--- ⚠ no such goal
--- part-is-utf8-end : tie.Need-slice-bounds-is-utf8-end
--- part-is-utf8-end c = omega (arith, (inside c).inside)
-
 pub returns-then-not-is_utf8 : goal.returns-then-not-is_utf8
 returns-then-not-is_utf8 c =
     rw c.invalid_utf8.ensures (refused_entry
@@ -86,14 +78,6 @@ returns-then-start-end c =
 
 pub slice_bounds-follows-count : goal.slice_bounds-follows-count
 slice_bounds-follows-count c = omega (arith, (inside (goal.at.slice_bounds-follows-count c).In-At).in_order)
-
--- ⚠ no such goal
--- part-follows-start : tie.Need-slice-bounds-follows-start
--- part-follows-start c = omega (arith, (inside c.before.before.before.before).in_order)
-
--- ⚠ no such goal
--- part-follows-end : tie.Need-slice-bounds-follows-end
--- part-follows-end c = omega (arith, (inside c.before.before.before.before).inside)
 
 pub returns-then-not-follows : goal.returns-then-not-follows
 returns-then-not-follows c =
