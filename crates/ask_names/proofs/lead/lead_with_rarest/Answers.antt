@@ -2,7 +2,6 @@ use native.Mathlib.Omega.{arith}
 use Rattle.ask_names.proofs.Leads.{exchanged}
 use Rattle.ask_names.proofs.lead.lead_with_rarest.Goals as goal
 
--- antt refused `returns` as it was built: the module's report says why
 pub returns : goal.returns
 returns c =
     let b = c.rarest-b.result in

@@ -1,5 +1,5 @@
-use mathlib.Core.List.{List, ◌∷◌}
-use Prim.Native.Nat.{ℕ, ◌+◌, ◌≤◌}
+use mathlib.Core.List.{◌∷◌}
+use Prim.Native.Nat.{◌+◌, ◌≤◌}
 use lib.ListN.{length, drop}
 use native.Mathlib.Omega.{arith}
 use Rattle.segment.specs.Texts.{names}
@@ -11,31 +11,25 @@ use Rattle.ask_names.proofs.Resolving.{HeldPartly, held_none, held_room, held_mo
 use Rattle.ask_names.proofs.lists.resolve.Goals as goal
 use Rattle.ask_names.proofs.lists.resolve.Goals.{After-long-to}
 
-abbrev text : After-long-to → List ℕ
-text c = c.args.text.now
-
-abbrev ends : After-long-to → List ℕ
-ends c = c.args.ends.now
-
 rises : (c : After-long-to) → c.loop-i.from ≤ c.long-to.result
-rises c = name_rises ((c.args.text.now)) ((c.args.ends.now)) _ _ _ c.loop-i.invariant.1 (omega arith) c.long-to.ensures
+rises c = name_rises c.args.text.now c.args.ends.now _ _ _ c.loop-i.invariant.1 (omega arith) c.long-to.ensures
 
-inside : (c : After-long-to) → c.long-to.result ≤ length ((c.args.text.now))
-inside c = name_ends ((c.args.text.now)) ((c.args.ends.now)) _ _ _ c.loop-i.invariant.1 (omega arith) c.long-to.ensures
+inside : (c : After-long-to) → c.long-to.result ≤ length c.args.text.now
+inside c = name_ends c.args.text.now c.args.ends.now _ _ _ c.loop-i.invariant.1 (omega arith) c.long-to.ensures
 
-few : (c : After-long-to) → length (names 0 ((c.args.ends.now)) ((c.args.text.now))) ≤ 128
-few c = omega (arith, names_count 0 ((c.args.ends.now)) ((c.args.text.now)), c.requires.2)
+few : (c : After-long-to) → length (names 0 c.args.ends.now c.args.text.now) ≤ 128
+few c = omega (arith, names_count 0 c.args.ends.now c.args.text.now, c.requires.2)
 
 -- the name is the first of those left
 left : (c : After-long-to) → let a = c.args in
     let l = c.loop-i in
-    HeldPartly a.bytes.now a.at (names 0 ((c.args.ends.now)) ((c.args.text.now)))
-    (between l.from c.long-to.result ((c.args.text.now))
-    ∷ names c.long-to.result (drop (l.i + 1) ((c.args.ends.now))) (drop c.long-to.result ((c.args.text.now))))
+    HeldPartly a.bytes.now a.at (names 0 c.args.ends.now c.args.text.now)
+    (between l.from c.long-to.result c.args.text.now
+    ∷ names c.long-to.result (drop (l.i + 1) c.args.ends.now) (drop c.long-to.result c.args.text.now))
     l.named (tables l.slot l.entry l.start l.end l.df l.checksum l.wanted)
 left c =
     let l = c.loop-i in
-    rw (turned ((c.args.text.now)) ((c.args.ends.now)) l.i l.from c.long-to.result l.invariant.1 (omega arith) c.long-to.ensures) at l.invariant.2
+    rw (turned c.args.text.now c.args.ends.now l.i l.from c.long-to.result l.invariant.1 (omega arith) c.long-to.ensures) at l.invariant.2
 
 pub loop-i-init : goal.loop-i-init
 loop-i-init c = (omega arith, c.requires.1, held_none c.requires.3)
@@ -60,7 +54,7 @@ pub loop-i-preserved : goal.loop-i-preserved
 loop-i-preserved c =
     let l = c.loop-i in (
       omega arith,
-      rest_fits ((c.args.text.now)) ((c.args.ends.now)) l.i l.from c.long-to.result l.invariant.1 (omega arith) c.long-to.ensures,
+      rest_fits c.args.text.now c.args.ends.now l.i l.from c.long-to.result l.invariant.1 (omega arith) c.long-to.ensures,
       held_more (left (goal.at.loop-i-preserved c).After-long-to) (few (goal.at.loop-i-preserved c).After-long-to) c.find_term-found.result c.find_term-found.ensures c.take_name-named.ensures,
     )
 

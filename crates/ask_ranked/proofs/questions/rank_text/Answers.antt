@@ -1,0 +1,57 @@
+use mathlib.Core.Path.{◌≡◌, refl}
+use mathlib.Core.Bool.{false}
+use mathlib.Core.List.{List}
+use Prim.Native.Nat.{ℕ, ◌≤◌}
+use native.Mathlib.Omega.{arith}
+use lib.ListN.{length}
+use Rattle.segment.specs.Texts.{names}
+use Rattle.segment.proofs.Shapes.{names_count}
+use Rattle.rules.specs.declared.rule.Rule.TheVariants.{Phrase}
+use Rattle.rules.specs.Kinds.{idle}
+use Rattle.rules.proofs.Idle.{not_idle_is, some_named}
+use Rattle.ask_ranked.proofs.questions.rank_text.Goals as goal
+use Rattle.ask_ranked.proofs.questions.rank_text.Goals.{After-resolve-named}
+
+abbrev asked : After-resolve-named → List (List ℕ)
+asked c = names 0 c.args.ends.now c.args.text.now
+
+few : (c : After-resolve-named) → length (asked c) ≤ 128
+few c = omega (arith, names_count 0 c.args.ends.now c.args.text.now, c.requires.2)
+
+not_idle : (c : After-resolve-named) → idle Phrase (length (asked c)) ≡ false
+not_idle c = rw (names_count 0 c.args.ends.now c.args.text.now) c.requires.3
+
+pub resolve-named-requires : goal.resolve-named-requires
+resolve-named-requires c =
+    let p = c.requires in (
+      p.0,
+      p.1,
+      p.2,
+      record { slot = refl; entry = refl; start = refl; end = refl; df = refl; checksum = refl; wanted = refl },
+    )
+
+pub rank_names-requires : goal.rank_names-requires
+rank_names-requires c =
+    let count = length (asked (goal.at.rank_names-requires c).After-resolve-named) in
+    record {
+      fits = c.requires.0;
+      names = asked (goal.at.rank_names-requires c).After-resolve-named;
+      resolved = c.resolve-named.ensures;
+      few = few (goal.at.rank_names-requires c).After-resolve-named;
+      some = some_named Phrase count ((not_idle_is Phrase count).0 (not_idle (goal.at.rank_names-requires c).After-resolve-named));
+    }
+
+pub returns : goal.returns
+returns c =
+    record {
+      replies = λ s is.
+          c.rank_names.ensures.replies
+          (record {
+            segment = s;
+            is_open = is;
+            names = asked (goal.at.returns c).After-resolve-named;
+            resolved = c.resolve-named.ensures;
+            few = few (goal.at.returns c).After-resolve-named;
+            not_idle = not_idle (goal.at.returns c).After-resolve-named;
+          });
+    }

@@ -1,0 +1,15 @@
+use Prim.Native.Nat.{◌+◌, ◌-◌, ◌^◌, ◌≤◌}
+use Rattle.ask_walk.specs.Steps.{cursors_in}
+use Rattle.ask_walk.proofs.Leaps.{Cursors}
+use Rattle.ask_walk.proofs.Walks.{Answers}
+use Rattle.ask_walk.proofs.walk.walk.Given as goal
+
+abbrev pub invariant-loop-rule : goal.invariant-loop-rule
+invariant-loop-rule l =
+    let heads = cursors_in l.initial.at l.initial.count l.initial.remaining l.initial.doc in
+    (l.from ≤ 2 ^ 32)
+    × Cursors l.bytes heads (cursors_in l.at l.count l.remaining l.doc) l.from 0
+    × Answers l.bytes l.rule l.n l.slot l.m l.wanted heads (λ q d. d) l.initial.ids l.ids l.found l.from
+
+abbrev pub decreases-loop-rule : goal.decreases-loop-rule
+decreases-loop-rule l = 2 ^ 32 + 1 - l.from
