@@ -1,15 +1,14 @@
 -- The position counts that stand in a segment's bytes are those of the postings that it decodes to.
 -- Assumes nothing.
-use mathlib.Core.Path.{◌≡◌, refl, sym, ap, ◌∙◌}
+use mathlib.Core.Path.{◌≡◌, ap, ◌∙◌}
 use mathlib.Core.List.{List, [], ◌∷◌}
 use mathlib.Core.Option.{Option, none, some}
 use Prim.Native.Nat.{ℕ, zero, suc, ◌+◌}
-use native.Mathlib.Omega.{arith}
 use lib.Dec.{eqb}
 use lib.ListN.{length}
 use Rattle.crc32.specs.Crc32.{crc32_of}
-use Rattle.segment.specs.Results.{Result, ok, refuse}
-use Rattle.segment.specs.Records.{Document, Posting, Term, Entry, Segment, Given, Read}
+use Rattle.segment.specs.Results.{ok}
+use Rattle.segment.specs.Records.{Document, Posting, Term, Entry, Given, Read}
 use Rattle.segment.specs.Postings.{Head, read_position, read_positions, read_head, read_posting, read_postings, all_postings, decode}
 use Rattle.segment.specs.Postings.{total_positions}
 use Rattle.segment.specs.Opening.{open_segment}

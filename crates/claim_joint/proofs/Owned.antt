@@ -3,20 +3,19 @@
 use mathlib.Core.Path.{◌≡◌, refl}
 use mathlib.Core.Bool.{Bool, true, false, cond}
 use mathlib.Core.List.{List, [], ◌∷◌, ◌++◌, map}
-use mathlib.Core.Logic.{◌↔◌}
 use Prim.Native.Nat.{ℕ}
 use lib.Dec.{eqb}
 use borrow.Author.Tests.{eqb-true, eq-eqb}
 use Rattle.segment.specs.Records.{Posting, Term}
 use Rattle.segment.specs.Names.{same}
 use Rattle.segment.proofs.Strings.{same_is}
-use Rattle.calls.specs.Given.{Lists, given}
+use Rattle.calls.specs.Given.{given}
 use Rattle.common.specs.Members.{kept}
 use Rattle.common.specs.Lists.{joined}
 use Rattle.common.specs.Elements.{◌∈◌}
 use Rattle.common.proofs.Membership.{joined_gives, joined_from, map_gives, kept_gives, kept_from}
 use Rattle.common.proofs.Elements.{map_from}
-use Rattle.claim_joint.specs.Own.{own_of, own_under, own, Stands}
+use Rattle.claim_joint.specs.Own.{own_of, own_under}
 use Rattle.claim_joint.specs.Claims.{OwnExactly}
 
 -- the lists of those that pass a test, one after the other

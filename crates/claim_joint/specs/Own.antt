@@ -1,5 +1,5 @@
 -- A document's own positions in the lists handed in (document 01, "The search").
-use Rattle.std.specs.Prelude.{ℕ, ◌+◌, ◌-◌, ◌≡◌, cond, List, [], ◌∷◌, ◌++◌, ◌↔◌, eqb}
+use Rattle.std.specs.Prelude.{ℕ, ◌≡◌, cond, List, [], ◌∷◌, ◌++◌, eqb}
 use Rattle.common.specs.Elements.{◌∈◌}
 use Rattle.segment.specs.Records.{Posting, Term}
 use Rattle.segment.specs.Names.{same}
