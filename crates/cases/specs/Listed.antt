@@ -1,6 +1,6 @@
 -- The listing: document 01's two bars as it prints them, and one line for a refusal; names by characters (document 02, wish 1).
 use Rattle.std.specs.Prelude.{◌≡◌, refl, ℕ, List, [], ◌∷◌, ◌++◌, length, replicate}
-use Rattle.segment.specs.Records.{Document, Entry}
+use Rattle.segment.specs.Records.{Entry}
 use Rattle.calls.specs.Listing.{listing, document_line, entry_line, name_column, list_into}
 use Rattle.segment.specs.Results.{ok}
 use Rattle.cases.specs.Through.{listing_lines}

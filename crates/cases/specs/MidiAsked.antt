@@ -1,6 +1,6 @@
 -- Phrases put to what the writer writes for an imported file: exactly the bars in which the file's own notes meet them, and none over a
 -- bar line. The files are those of MidiFiles.antt.
-use Rattle.std.specs.Prelude.{ℕ, ◌≡◌, refl, List, [], ◌∷◌, ◌++◌, map}
+use Rattle.std.specs.Prelude.{ℕ, ◌≡◌, refl, List, [], ◌∷◌, ◌++◌}
 use Rattle.segment.specs.Results.{Result, ok, ◌>>=◌}
 use Rattle.rules.specs.declared.rule.Rule.TheVariants.{Phrase}
 use Rattle.calls.specs.Writing.{write}

@@ -1,5 +1,5 @@
 -- What the hits of a MIDI file are read into, and the nine lent buffers.
-use Rattle.std.specs.Prelude.{ℕ, ◌≡◌, refl, List, [], ◌∷◌, ◌++◌, map}
+use Rattle.std.specs.Prelude.{◌≡◌, refl, [], ◌∷◌, ◌++◌, map}
 use Rattle.segment.specs.Results.{ok}
 use Rattle.segment.specs.declared.replies.Imported.TheVariants as imported
 use Rattle.calls.specs.Given.{lists}

@@ -1,6 +1,6 @@
 -- The events of a track, one clause after another. Division 4: a tick is a step. What is read has its hits, each with tick, note and
 -- velocity; a refusal has the offset of its event's delta time, and the first event stands at 22.
-use Rattle.std.specs.Prelude.{ℕ, ◌≡◌, refl, List, [], ◌∷◌, ◌++◌, map, replicate}
+use Rattle.std.specs.Prelude.{ℕ, ◌≡◌, refl, List, [], ◌∷◌, map, replicate}
 use Rattle.segment.specs.Results.{Result, ok}
 use Rattle.midi_read.specs.declared.track.Hit.{Hit}
 use Rattle.cases.specs.Through.{hearing}

@@ -26,9 +26,8 @@ use Rattle.claim_joint.specs.declared.ask.Asked.{Asked}
 use Rattle.claim_joint.specs.declared.ask.Asked.TheVariants as asked
 use Rattle.claim_joint.specs.declared.ask.Question.TheVariants as question
 use Rattle.claim_joint.specs.Promise.{WrittenThenAsked}
-use Rattle.claim_import.specs.declared.ask.ImportAsked.{ImportAsked}
 use Rattle.claim_import.specs.declared.ask.ImportAsked.TheVariants as reply
-use Rattle.claim_import.specs.Phrases.{WithoutRefusal, BarsListed, RoomForLists, ImportedExactly}
+use Rattle.claim_import.specs.Phrases.{WithoutRefusal, BarsListed, ImportedExactly}
 use Rattle.claim_import.specs.Claims.{FrontsHeld, FrontsLoud}
 use Rattle.claim_import.specs.Promise.{totals_of, ImportedThenAsked}
 use Rattle.claim_import.specs.Steps.{fronts, HasFronts}

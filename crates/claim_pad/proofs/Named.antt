@@ -21,7 +21,6 @@ use Rattle.segment.proofs.Strings.{precedes_is}
 use Rattle.calls.specs.Given.{term}
 use Rattle.calls.specs.Acceptance.{NamesRising}
 use Rattle.calls.specs.Checks.{check_name, check_postings, check_terms}
-use Rattle.calls.proofs.Accepted.{postings_from, terms_from}
 use Rattle.claim_joint.proofs.Once.{names_above, names_tail}
 use Rattle.pad_map.specs.Bars.{Bar}
 use Rattle.pad_map.specs.Acts.{steps_of, postings_of, terms_of}

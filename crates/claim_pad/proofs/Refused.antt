@@ -29,7 +29,7 @@ use Rattle.calls.specs.Writing.{write}
 use Rattle.calls.proofs.Sizes.{segment_length}
 use Rattle.pad_map.specs.Bars.{Bar, lookup, hits_in_all}
 use Rattle.pad_map.specs.Rules.{all_up_to, all_audible, hits_rise, all_below, check_hits}
-use Rattle.pad_map.specs.Acts.{is_some, save, found, erase, read, write_out}
+use Rattle.pad_map.specs.Acts.{is_some, save, found, read, write_out}
 use Rattle.pad_map.proofs.Saved.{small_test, even_test, absent}
 use Rattle.pad_map.proofs.Room.{other_passed}
 use Rattle.pad_map.proofs.Outside.{velocity_exactly}

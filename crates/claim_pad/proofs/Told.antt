@@ -9,7 +9,6 @@ use Rattle.segment.specs.Results.{Result, ok, refuse}
 use Rattle.segment.specs.Texts.{names}
 use Rattle.segment.specs.declared.refusal.Refusal.{Refusal}
 use Rattle.segment.specs.declared.replies.Counted.{Counted}
-use Rattle.segment.specs.declared.replies.Counted.TheVariants as counted
 use Rattle.segment.specs.declared.replies.Written.{Written}
 use Rattle.segment.specs.declared.replies.Written.TheVariants as written
 use Rattle.segment.proofs.Binds.{refuse_ok}

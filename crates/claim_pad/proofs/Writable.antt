@@ -30,7 +30,7 @@ use Rattle.pad_map.specs.Bars.{Bar}
 use Rattle.pad_map.specs.Rules.{HitsFine}
 use Rattle.pad_map.specs.Acts.{postings_of, terms_of, given_of, write_out}
 use Rattle.pad_words.specs.Words.{held}
-use Rattle.pad_words.specs.Whole.{Whole, whole}
+use Rattle.pad_words.specs.Whole.{Whole}
 use Rattle.pad_words.specs.Calls.{held_bars, pad_write}
 use Rattle.pad_words.proofs.Exactly.{whole_exactly}
 use Rattle.pad_write.proofs.Bounds.{documents_of, ids_are, checks_are}
