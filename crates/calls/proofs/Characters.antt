@@ -12,7 +12,6 @@ use borrow.Author.Tests.{lt-ltb, le-ltb}
 use Rattle.common.proofs.Loops.{lt_or_ge}
 use Rattle.utf8.specs.Utf8.{Scalar, Scalars, octets, text, IsUtf8, decoded}
 use Rattle.utf8.proofs.Decoded.{decodes, decodes_front, text_append, scalars_append, scalars_take, is_utf8_append, is_utf8_cons}
-use Rattle.segment.specs.declared.refusal.Refusal.{Refusal}
 use Rattle.segment.specs.Results.{Result, ok, refuse}
 use Rattle.segment.specs.Records.{Document, Entry, Segment}
 use Rattle.calls.specs.Listing.{digits, column, shown, fitted, name_column, count_line, document_line, entry_line, document_lines}

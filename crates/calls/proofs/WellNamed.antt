@@ -2,14 +2,12 @@
 -- Assumes nothing.
 use mathlib.Core.Path.{◌≡◌, refl}
 use mathlib.Core.Bool.{Bool, true, false}
-use mathlib.Core.List.{List}
-use Prim.Native.Nat.{ℕ, ◌≤◌}
 use lib.Dec.{leb}
 use lib.ListN.{length}
 use borrow.Author.Tests.{leb-true, le-leb}
 use Rattle.utf8.specs.Utf8.{utf8}
 use Rattle.utf8.proofs.Text.{grammar_agrees}
-use Rattle.segment.specs.Results.{ok, refuse, ◌>>=◌, check}
+use Rattle.segment.specs.Results.{ok, check}
 use Rattle.segment.specs.Refusals.{invalid_utf8}
 use Rattle.segment.proofs.Binds.{refuse_ok}
 use Rattle.segment.proofs.Accepted.{check_gives}

@@ -3,7 +3,7 @@ use Rattle.std.specs.Prelude.{ℕ, cond, List, [], ◌∷◌, leb, eqb, length}
 use Rattle.std.proofs.Math.Option.{Option, none, some}
 use Rattle.utf8.specs.Utf8.{utf8}
 use Rattle.segment.specs.Refusals.{too_large, invalid_utf8}
-use Rattle.segment.specs.Results.{Result, ok, refuse, ◌>>=◌, check}
+use Rattle.segment.specs.Results.{Result, ok, ◌>>=◌, check}
 use Rattle.segment.specs.Records.{Document, Posting, Entry, Segment}
 use Rattle.segment.specs.Directory.{entry_of}
 use Rattle.segment.specs.Postings.{decode}

@@ -1,5 +1,5 @@
 -- How many bytes a segment of what is handed in takes, from document 01's format, with every number in its shortest form (decision 4).
-use Rattle.std.specs.Prelude.{ℕ, ◌+◌, ◌-◌, List, [], ◌∷◌, length}
+use Rattle.std.specs.Prelude.{ℕ, ◌+◌, List, [], ◌∷◌, length}
 use Rattle.std.proofs.Math.Option.{Option, none, some}
 use Rattle.leb128.specs.Leb128.{encoded}
 use Rattle.segment.specs.Records.{Document, Posting, Term, header_size, entry_size, gap}

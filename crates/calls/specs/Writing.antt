@@ -1,7 +1,7 @@
 -- The calls that write: the bytes, or the first refusal. `room` is how many places the lent slice has.
 use Rattle.std.specs.Prelude.{ℕ, List, length, ◌&&◌, eqb}
 use Rattle.segment.specs.Results.{Result, ok, roomy, check, ◌>>=◌}
-use Rattle.calls.specs.Given.{Lists, given, lists}
+use Rattle.calls.specs.Given.{Lists, given}
 use Rattle.calls.specs.Checks.{check_lists, small}
 use Rattle.segment.specs.Written.{segment_bytes}
 use Rattle.segment.specs.Refusals.{too_large, list_shape}

@@ -1,5 +1,5 @@
 -- Lists: which elements pass a test.
-use Rattle.std.specs.Prelude.{Bool, true, false, cond, ◌&&◌, ◌||◌, List, [], ◌∷◌, ◌++◌}
+use Rattle.std.specs.Prelude.{Bool, true, false, cond, ◌&&◌, ◌||◌, List, [], ◌∷◌}
 
 module _ {A : Type 0} where
   -- every element passes

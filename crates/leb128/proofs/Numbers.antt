@@ -1,21 +1,20 @@
 -- Reading an unsigned LEB128 number a byte at a time, at an offset of a list.
 -- Assumes nothing.
-use mathlib.Core.Path.{◌≡◌, refl, sym, ap, ◌∙◌}
+use mathlib.Core.Path.{◌≡◌, refl, ap, ◌∙◌}
 use mathlib.Core.List.{List, [], ◌∷◌}
 use mathlib.Core.Bool.{Bool, true, false, cond, ◌&&◌}
 use mathlib.Core.Option.{Option, none, some}
-use mathlib.Core.Logic.{⊎_elim, ◌↔◌}
-use Prim.Native.Nat.{ℕ, zero, suc, ◌+◌, ◌*◌, ◌%◌, ◌^◌, ◌≤◌, ◌<◌}
+use mathlib.Core.Logic.{⊎_elim}
+use Prim.Native.Nat.{ℕ, suc, ◌+◌, ◌*◌, ◌%◌, ◌^◌, ◌≤◌, ◌<◌}
 use native.Mathlib.Omega.{arith}
 use lib.Dec.{ltb, leb}
 use lib.ListN.{length, drop, get_or}
-use borrow.Author.Tests.{lt-ltb, le-ltb, le-leb, lt-leb, ltb-true, leb-true}
-use Rattle.leb128.specs.declared.varint.Decoded.{Decoded}
+use borrow.Author.Tests.{lt-ltb, le-ltb, le-leb, lt-leb}
 use Rattle.leb128.specs.declared.varint.Decoded.TheVariants.{Value, Refused}
-use Rattle.leb128.specs.Leb128.{Leb, below, uleb128, limited, stored}
+use Rattle.leb128.specs.Leb128.{Leb, below, uleb128, limited}
 use Rattle.leb128.specs.Promise.{decoded}
 use Rattle.leb128.specs.Claims as claims
-use Rattle.common.proofs.Loops.{lt_or_ge, drop_step, drop_end, and_left, and_right, true_false}
+use Rattle.common.proofs.Loops.{lt_or_ge, drop_step, drop_end}
 
 module _ (s : List ℕ) (at : ℕ) where
   pub more : at < length s → 128 ≤ get_or s at 0 → uleb128 (drop at s) ≡ below (get_or s at 0) (uleb128 (drop (at + 1) s))

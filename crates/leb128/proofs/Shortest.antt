@@ -6,18 +6,17 @@ use mathlib.Core.Bool.{Bool, true, false, cond, ◌&&◌}
 use mathlib.Core.Option.{Option, none, some}
 use mathlib.Core.Logic.{⊎_elim, ◌⊎◌, inl, inr, ◌↔◌}
 use Prim.Native.Nat.{ℕ, zero, suc, ◌+◌, ◌*◌, ◌/◌, ◌%◌, ◌^◌, ◌≤◌, ◌<◌}
-use native.Mathlib.Nat.{pow-suc, le_refl}
+use native.Mathlib.Nat.{pow-suc}
 use native.Mathlib.Omega.{arith}
 use lib.Dec.{ltb, leb}
-use lib.ListN.{length, drop, get_or}
+use lib.ListN.{length, get_or}
 use lib.Seq.{drop-append_seam}
 use borrow.Author.Tests.{lt-ltb, le-ltb, le-leb, leb-true, ltb-true}
-use Rattle.leb128.specs.declared.varint.Decoded.{Decoded}
-use Rattle.leb128.specs.declared.varint.Decoded.TheVariants.{Value, Refused}
-use Rattle.leb128.specs.Leb128.{Leb, below, uleb128, limited, stored, chunks, encoded}
+use Rattle.leb128.specs.declared.varint.Decoded.TheVariants.{Value}
+use Rattle.leb128.specs.Leb128.{Leb, below, uleb128, limited, chunks, encoded}
 use Rattle.leb128.specs.Promise.{decoded_at}
 use Rattle.leb128.specs.Claims as claims
-use Rattle.common.proofs.Loops.{lt_or_ge, and_left, and_right, true_false}
+use Rattle.common.proofs.Loops.{lt_or_ge, and_left, and_right}
 use Rattle.leb128.proofs.Numbers.{value, size_pos}
 
 -- a limit on the chunks does not show where the number is small enough for it

@@ -1,6 +1,6 @@
 -- What is claimed of the definition, each of every input; proved in proofs/Shortest.antt.
 use Rattle.std.specs.Prelude.{ℕ, ◌≤◌, ◌<◌, ◌^◌, ◌≡◌, List, ◌++◌, ◌↔◌, length, get_or}
-use Rattle.std.proofs.Math.Option.{Option, some}
+use Rattle.std.proofs.Math.Option.{some}
 use Rattle.leb128.specs.Leb128.{Leb, uleb128, stored, encoded}
 
 abbrev pub leb_number : ℕ → ℕ → Leb

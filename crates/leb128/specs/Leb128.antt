@@ -1,5 +1,5 @@
 -- Unsigned LEB128 (DWARF 5, section 7.6): seven bits to a byte, the low ones first, and the high bit set on every byte but the last.
-use Rattle.std.specs.Prelude.{ℕ, zero, suc, ◌+◌, ◌*◌, ◌/◌, ◌%◌, ◌^◌, List, [], ◌∷◌, Bool, true, false, cond, ◌&&◌, ltb, leb}
+use Rattle.std.specs.Prelude.{ℕ, zero, suc, ◌+◌, ◌*◌, ◌/◌, ◌%◌, ◌^◌, List, [], ◌∷◌, cond, ◌&&◌, ltb, leb}
 use Rattle.std.proofs.Math.Option.{Option, none, some}
 
 -- A number at the front of a list of bytes: its value, and how many bytes it takes

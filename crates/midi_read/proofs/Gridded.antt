@@ -1,11 +1,10 @@
 -- A hit's step, bar and position: quotient and remainder.
 -- Assumes nothing.
 use mathlib.Core.Path.{◌≡◌}
-use Prim.Native.Nat.{ℕ, ◌+◌, ◌*◌, ◌/◌, ◌%◌, ◌≤◌, ◌<◌}
+use Prim.Native.Nat.{◌+◌, ◌*◌, ◌%◌, ◌<◌}
 use native.Mathlib.Nat.{div-add-mod', mod-lt}
 use native.Mathlib.Omega.{arith}
-use Rattle.midi_read.specs.declared.track.Hit.{Hit}
-use Rattle.midi_read.specs.Files.{Grid, step_of}
+use Rattle.midi_read.specs.Files.{step_of}
 use Rattle.midi_read.specs.Claims.{GridRight}
 
 pub grid_right : GridRight

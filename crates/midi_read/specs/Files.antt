@@ -1,6 +1,6 @@
 -- A Standard MIDI File 1.0 of format 0 with one track, as document 02 reads it. Everything is read at an offset of the file. Two numbers
 -- are free here that the call fixes: steps to a bar (16) and steps to a quarter (4).
-use Rattle.std.specs.Prelude.{ℕ, zero, suc, ◌+◌, ◌*◌, ◌/◌, ◌%◌, ◌-◌, Bool, cond, ◌&&◌, ◌||◌, List, [], ◌∷◌, ltb, leb, eqb, length, take, drop, get_or}
+use Rattle.std.specs.Prelude.{ℕ, zero, suc, ◌+◌, ◌*◌, ◌/◌, ◌%◌, Bool, cond, ◌&&◌, ◌||◌, List, [], ◌∷◌, ltb, leb, eqb, length, take, drop, get_or}
 use Rattle.std.proofs.Math.Option.{Option, none, some}
 use Rattle.segment.specs.Refusals.{too_large, midi_file, bar_too_far}
 use Rattle.segment.specs.Results.{Result, ok, refuse, ◌>>=◌, check}

@@ -1,12 +1,10 @@
 -- A Standard MIDI File of format 0 with one track, in words: the bytes of its chunks and events, by what they say. Nothing here names the
 -- reader (Files.antt): there is no offset and no order of tests. Claims.antt says that the reader takes exactly these files, with exactly
 -- these hits.
-use Rattle.std.specs.Prelude.{ℕ, ◌+◌, ◌*◌, ◌/◌, ◌%◌, ◌≤◌, ◌<◌, ◌≡◌, Bool, cond, ◌&&◌, List, [], ◌∷◌, ◌++◌, ◌⊎◌, ◌↔◌, ltb, leb, length, get_or, drop}
+use Rattle.std.specs.Prelude.{ℕ, ◌+◌, ◌*◌, ◌/◌, ◌%◌, ◌≤◌, ◌<◌, ◌≡◌, Bool, cond, ◌&&◌, List, [], ◌∷◌, ◌++◌, ◌⊎◌, ltb, leb, length, get_or, drop}
 use Rattle.common.specs.Elements.{◌∈◌}
-use Rattle.segment.specs.Refusals.{midi_file}
-use Rattle.segment.specs.Results.{ok, refuse, ◌>>=◌}
 use Rattle.midi_read.specs.declared.track.Hit.{Hit}
-use Rattle.midi_read.specs.Files.{Grid, grid, bar_of, chunks, hits}
+use Rattle.midi_read.specs.Files.{Grid, grid, bar_of}
 
 -- ---- variable-length numbers
 

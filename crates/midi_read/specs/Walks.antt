@@ -1,9 +1,9 @@
 -- A pass over a file's hits: a state is taken from hit to hit. What every loop over events is.
 use Rattle.std.specs.Prelude.{List, [], ◌∷◌, ℕ, length}
-use Rattle.segment.specs.Results.{Result, ok, refuse, ◌>>=◌}
+use Rattle.segment.specs.Results.{Result, ok, ◌>>=◌}
 use Rattle.midi_read.specs.declared.track.Reader.{Reader}
 use Rattle.midi_read.specs.declared.track.Hit.{Hit}
-use Rattle.midi_read.specs.Files.{Grid, hits_from, first_event}
+use Rattle.midi_read.specs.Files.{Grid, hits_from}
 
 abbrev pub over : {S : Type 0} → (S → Hit → S) → S → List Hit → S
 over f s [] = s

@@ -10,7 +10,7 @@ use lib.Dec.{eqb}
 use lib.ListN.{length, take, drop, get_or, length-drop}
 use lib.Seq.{get_or-drop}
 use borrow.Author.Tests.{eqb-true}
-use Rattle.common.proofs.Bytes.{Bytes, none, one, each_below}
+use Rattle.common.proofs.Bytes.{Bytes, one, each_below}
 use Rattle.segment.specs.Records.{little_endian, field}
 use Rattle.read_cursors.specs.Singles.{Singles}
 

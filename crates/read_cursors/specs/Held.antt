@@ -1,5 +1,5 @@
 -- What the bytes still hold from a cursor on. Nothing is demanded of the bytes: the list ends where the next element would be refused.
-use Rattle.std.specs.Prelude.{ℕ, zero, suc, ◌-◌, ◌<◌, cond, true, List, [], ◌∷◌, ltb, drop, length, ◌≡◌}
+use Rattle.std.specs.Prelude.{ℕ, zero, suc, ◌<◌, cond, true, List, [], ◌∷◌, ltb, drop, length, ◌≡◌}
 use Rattle.std.proofs.Math.Option.{Option, some, none}
 use Rattle.segment.specs.Results.{Result, ok, refuse, ◌>>=◌}
 use Rattle.segment.specs.Records.{Document, Read, Posting, number, rises}

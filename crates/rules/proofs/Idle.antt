@@ -9,7 +9,7 @@ use lib.Dec.{eqb, ltb}
 use borrow.Author.Tests.{eqb-false, ltb-false, ne_eqb, le-ltb}
 use Rattle.rules.specs.declared.rule.Rule.{Rule}
 use Rattle.rules.specs.declared.rule.Rule.TheVariants.{Phrase, Ordered, Unordered}
-use Rattle.rules.specs.Kinds.{idle, Enough}
+use Rattle.rules.specs.Kinds.{Enough}
 use Rattle.rules.specs.Claims as claims
 use Rattle.common.proofs.Membership.{neither}
 

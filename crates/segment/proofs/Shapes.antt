@@ -3,14 +3,13 @@
 use mathlib.Core.Path.{◌≡◌, refl, sym, ap}
 use mathlib.Core.Bool.{true}
 use mathlib.Core.List.{List, [], ◌∷◌}
-use mathlib.Core.Logic.{◌↔◌}
 use Prim.Native.Nat.{ℕ, zero, suc, ◌-◌, ◌≤◌, ◌<◌}
 use native.Mathlib.Omega.{arith}
 use lib.Dec.{leb}
 use lib.ListN.{length, drop, get_or}
 use borrow.Author.Tests.{leb-true, le-leb, eqb-true, eq-eqb}
 use Rattle.common.proofs.Loops.{and_left, and_right}
-use Rattle.segment.specs.Texts.{TextShape, ends_fit, names}
+use Rattle.segment.specs.Texts.{ends_fit, names}
 use Rattle.segment.specs.Claims.{ShapeAgrees}
 
 -- as many names as ends

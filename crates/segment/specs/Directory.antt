@@ -4,7 +4,7 @@ use Rattle.std.proofs.Math.Option.{Option, none, some}
 use Rattle.utf8.specs.Utf8.{utf8}
 use Rattle.segment.specs.Refusals.{postings, term_bytes, truncated, invalid_utf8, invalid_layout, section_range_overflow}
 use Rattle.segment.specs.Refusals.{directory_length_mismatch, empty_term, non_increasing_term, empty_term_posting_list}
-use Rattle.segment.specs.Results.{Result, ok, refuse, ◌>>=◌, check}
+use Rattle.segment.specs.Results.{Result, ok, ◌>>=◌, check}
 use Rattle.segment.specs.Records.{Entry, field, entry_size}
 use Rattle.segment.specs.Names.{same, precedes}
 

@@ -4,7 +4,7 @@ use Rattle.std.specs.Prelude.{ℕ, zero, suc, ◌^◌, cond, List, [], ◌∷◌
 use Rattle.std.proofs.Math.Option.{Option, none, some}
 use Rattle.segment.specs.Refusals.{document_metadata, doc_id_overflow, invalid_layout, non_increasing_document_id}
 use Rattle.segment.specs.Refusals.{trailing_document_metadata}
-use Rattle.segment.specs.Results.{Result, ok, refuse, ◌>>=◌, check}
+use Rattle.segment.specs.Results.{Result, ok, ◌>>=◌, check}
 use Rattle.segment.specs.Records.{Document, Read, number, at_gap, rises}
 
 abbrev pub document : ℕ → ℕ → Document

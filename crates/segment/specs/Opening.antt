@@ -3,7 +3,7 @@ use Rattle.std.specs.Prelude.{ℕ, ◌+◌, List, [], ◌∷◌, leb, eqb, lengt
 use Rattle.crc32.specs.Crc32.{crc32_of}
 use Rattle.segment.specs.Refusals.{header, term_directory, term_bytes, document_metadata, postings, truncated, invalid_magic}
 use Rattle.segment.specs.Refusals.{unsupported_version, unsupported_flags, checksum_mismatch, invalid_layout, trailing_bytes}
-use Rattle.segment.specs.Results.{Result, ok, refuse, ◌>>=◌, check}
+use Rattle.segment.specs.Results.{Result, ok, ◌>>=◌, check}
 use Rattle.segment.specs.Records.{Segment, field, header_size}
 use Rattle.segment.specs.Names.{same}
 use Rattle.segment.specs.Metadata.{metadata}

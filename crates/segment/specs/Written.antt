@@ -1,5 +1,5 @@
 -- The bytes of a segment: header, directory, term bytes, metadata, posting lists (document 01, "The segment").
-use Rattle.std.specs.Prelude.{ℕ, zero, suc, ◌+◌, ◌-◌, ◌/◌, ◌%◌, List, [], ◌∷◌, ◌++◌, map, length}
+use Rattle.std.specs.Prelude.{ℕ, zero, suc, ◌+◌, ◌/◌, ◌%◌, List, [], ◌∷◌, ◌++◌, map, length}
 use Rattle.std.proofs.Math.Option.{Option, none, some}
 use Rattle.leb128.specs.Leb128.{encoded}
 use Rattle.crc32.specs.Crc32.{crc32_of}

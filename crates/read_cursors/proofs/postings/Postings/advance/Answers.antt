@@ -1,0 +1,7 @@
+-- Where all is short the cursor is advanced at once, else number by number.
+use Rattle.read_cursors.proofs.QuickSteps.{sure_posting}
+use Rattle.read_cursors.proofs.postings.Postings.advance.Goals as goal
+
+pub returns-in-Sure : goal.returns-in-Sure
+returns-in-Sure c =
+    sure_posting c.args.bytes.now _ c.advance_short.ensures c.in-Sure.is

@@ -1,0 +1,22 @@
+-- The first range by one octet, and the others from the next place on.
+use mathlib.Core.List.{[], ◌∷◌}
+use native.Mathlib.Omega.{arith}
+use Rattle.utf8.specs.Utf8.{range, utf8_tail}
+use Rattle.utf8.proofs.Ranges.{within, joined, apart}
+use Rattle.utf8.proofs.characters.four.Goals as goal
+
+pub overflow_add-at : goal.overflow_add-at
+overflow_add-at c =
+    let a = c.args in
+    omega (arith, within _ a.s.now a.at c.one.ensures c.if-one.true)
+
+pub returns-then-one : goal.returns-then-one
+returns-then-one c =
+    let a = c.args in
+    joined _ a.s.now a.at c.one.ensures (range a.low1 a.high1 ∷ utf8_tail ∷ utf8_tail ∷ [])
+    c.if-one.true c.three.ensures
+
+pub returns : goal.returns
+returns c =
+    let a = c.args in
+    apart _ a.s.now a.at c.one.ensures _ c.if-one.false
