@@ -16,7 +16,7 @@ use Rattle.common.specs.Elements.{◌∈◌, Rising}
 use Rattle.segment.specs.Records.{Document}
 use Rattle.segment.specs.Metadata.{document}
 use Rattle.segment.specs.Refusals.{too_large, midi_file}
-use Rattle.segment.specs.Results.{ok, ◌>>=◌}
+use Rattle.segment.specs.Results.{ok}
 use Rattle.segment.specs.Names.{same}
 use Rattle.segment.proofs.Binds.{bind_gives, ok_same}
 use Rattle.segment.proofs.Accepted.{check_gives}

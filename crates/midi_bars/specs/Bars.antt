@@ -5,7 +5,6 @@ use Rattle.segment.specs.Records.{Posting, Term, Given}
 use Rattle.segment.specs.Metadata.{document}
 use Rattle.common.specs.Members.{some_of, kept}
 use Rattle.calls.specs.Given.{Lists, posting, term, laid_flat}
-use Rattle.common.specs.Lists.{joined}
 use Rattle.midi_read.specs.declared.track.Hit.{Hit}
 use Rattle.midi_read.specs.Files.{Grid, bar_of, position_of}
 

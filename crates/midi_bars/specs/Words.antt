@@ -1,6 +1,6 @@
 -- What a MIDI file plays, in the customer's words; Claims.antt says that the lists have exactly this. `hs` are the file's note-ons with
 -- velocity above 0: crate midi_read says in words which files have which (specs/Tracks.antt, `WithinRules`).
-use Rattle.std.specs.Prelude.{ℕ, ◌+◌, ◌*◌, ◌/◌, ◌<◌, ◌≡◌, List, [], ◌∷◌, length, get_or}
+use Rattle.std.specs.Prelude.{ℕ, ◌+◌, ◌*◌, ◌/◌, ◌<◌, ◌≡◌, List, [], length, get_or}
 use Rattle.common.specs.Elements.{◌∈◌}
 use Rattle.midi_read.specs.declared.track.Hit.{Hit}
 use Rattle.midi_read.specs.Files.{big_field}

@@ -4,10 +4,8 @@ use mathlib.Core.Path.{◌≡◌, refl, ap, ap₂, ◌∙◌}
 use mathlib.Core.Bool.{Bool, true, false, cond}
 use mathlib.Core.List.{List, [], ◌∷◌, map}
 use Prim.Native.Nat.{ℕ, suc}
-use lib.Dec.{eqb, ltb}
-use lib.ListN.{length}
+use lib.Dec.{eqb}
 use Rattle.common.specs.Members.{kept}
-use Rattle.segment.specs.Records.{Document, Given}
 use Rattle.segment.specs.Texts.{names}
 use Rattle.segment.specs.Metadata.{document}
 use Rattle.calls.specs.Given.{posting}

@@ -13,7 +13,7 @@ use Rattle.common.proofs.Elements.{each}
 use Rattle.common.proofs.Loops.{and_left, and_right}
 use Rattle.common.proofs.Membership.{or_cases, or_right}
 use Rattle.pad_map.specs.Bars.{Hit, Key, key_of, with_velocity}
-use Rattle.pad_map.specs.Rules.{ComesBefore, HitsRising, VelocityFits, HitsFine}
+use Rattle.pad_map.specs.Rules.{ComesBefore, HitsRising, VelocityFits}
 use Rattle.pad_map.specs.Rules.{before, comes_after, velocity_fits, hit_fine, hits_fine}
 use Rattle.pad_map.specs.Claims.{OrderExactly, FineExactly}
 

@@ -4,12 +4,12 @@ use Rattle.std.proofs.Math.Option.{Option, none, some}
 use Rattle.common.specs.Members.{kept}
 use Rattle.segment.specs.Refusals.{too_large, list_shape, unknown_bar, already_held, pad_full}
 use Rattle.segment.specs.Results.{Result, ok, refuse, ◌>>=◌, check, roomy}
-use Rattle.segment.specs.Records.{Document, Posting, Term, Given}
+use Rattle.segment.specs.Records.{Posting, Term, Given}
 use Rattle.segment.specs.Metadata.{document}
 use Rattle.segment.specs.Texts.{names, ends_fit}
 use Rattle.calls.specs.Given.{posting, term, laid_flat}
 use Rattle.calls.specs.Writing.{write}
-use Rattle.pad_map.specs.Bars.{Hit, Bar, bar, hits_in, lookup, insert, without, hits_in_all}
+use Rattle.pad_map.specs.Bars.{Hit, Bar, bar, hits_in, lookup, insert, hits_in_all}
 use Rattle.pad_map.specs.Rules.{check_hits}
 
 -- ---- saving and erasing
