@@ -19,6 +19,8 @@ import sys
 WORD = r"[A-Za-z][A-Za-z0-9_'₀₁₂]*(?:-[A-Za-z0-9_'₀₁₂]+)+"
 TOKEN = re.compile(r"(?<![A-Za-z0-9_'₀₁₂◌-])" + WORD + r"(?![A-Za-z0-9_'₀₁₂-])")
 CAMEL = {"crc32Of": "crc32_of", "decodedAt": "decoded_at"}
+# Two would have the name of a type of src/.
+OTHERS = {"Term-found": "TermIsFound", "Decoded-list": "ListIsDecoded"}
 CAMEL_TOKEN = re.compile(r"(?<![\w'])(" + "|".join(CAMEL) + r")(?![\w'])")
 USE = re.compile(r"^\s*(?:pub\s+)?(?:ghost\s+)?use\s+([^\s{;]+?)(?:\.\{([^}]*)\})?(?:\s+as\s+(\S+?))?\s*;?\s*$", re.M)
 # What the check makes of a function, in a proof that walks its code.
@@ -92,7 +94,7 @@ def main():
             if TOKEN.fullmatch(stem):
                 names.add(stem)
     names -= library
-    new = {n: respelled(n) for n in names} | CAMEL
+    new = {n: OTHERS.get(n, respelled(n)) for n in names} | CAMEL
 
     together = {}
     for old, to in new.items():

@@ -16,7 +16,7 @@ use Rattle.calls.specs.Kept.{Kept}
 use Rattle.read_open.specs.declared.header.Layout.{Layout}
 use Rattle.read_terms.specs.declared.find.TermFound.{TermFound}
 use Rattle.read_terms.specs.declared.find.TermFound.TheVariants as found
-use Rattle.read_terms.specs.Steps.{ListInside, TermFound}
+use Rattle.read_terms.specs.Steps.{ListInside, TermIsFound}
 use Rattle.ask_names.specs.declared.slots.Named.{Named}
 use Rattle.ask_names.specs.Steps.{Slots, Founds, none_left, one_more, slot_for, InSlots}
 use Rattle.ask_names.specs.Tables.{Tables, list_in, Hold, ListsInside}
@@ -50,11 +50,11 @@ told bytes = record {
 }
 
 module _ (bytes : List ℕ) (at : Layout) where
-  named_so : (n : List ℕ) (f : TermFound) → TermFound bytes at n f → EntryNamed bytes (made_up f) f
+  named_so : (n : List ℕ) (f : TermFound) → TermIsFound bytes at n f → EntryNamed bytes (made_up f) f
   named_so n (found.List l) r = (refl, r.0)
   named_so n found.Absent r = refl
 
-  renamed : {ns : List (List ℕ)} {fs : List TermFound} → Founds (TermFound bytes at) ns fs → Founds (EntryNamed bytes) (made_ups fs) fs
+  renamed : {ns : List (List ℕ)} {fs : List TermFound} → Founds (TermIsFound bytes at) ns fs → Founds (EntryNamed bytes) (made_ups fs) fs
   renamed none_left = none_left
   renamed (one_more {n = n} {f = f} r w) = one_more (named_so n f r) (renamed w)
 

@@ -38,7 +38,7 @@ use Rattle.read_open.specs.declared.header.Layout.{Layout}
 use Rattle.read_open.specs.Opened.{OpenedAs}
 use Rattle.read_terms.specs.declared.find.TermList.{TermList}
 use Rattle.read_terms.specs.declared.find.TermFound.TheVariants as found
-use Rattle.read_terms.specs.Steps.{TermFound, list_entry}
+use Rattle.read_terms.specs.Steps.{TermIsFound, list_entry}
 use Rattle.read_terms.specs.Together.{ListsDecode}
 use Rattle.read_terms.proofs.Finding.{nameless}
 use Rattle.read_terms.proofs.Longer.{decoded_walked}
@@ -96,7 +96,7 @@ module _ {bytes : List ℕ} {at : Layout} {a : Rule} {n : Named} {t : Tables} (q
   is_opened : OpenedAs bytes at
   is_opened = (q.segment, q.is_open)
 
-  held : Holding (TermFound bytes at) q.names slots
+  held : Holding (TermIsFound bytes at) q.names slots
   held = names_held is_opened q.resolved.resolved q.few
 
   named : 0 < slots.taken
@@ -104,12 +104,12 @@ module _ {bytes : List ℕ} {at : Layout} {a : Rule} {n : Named} {t : Tables} (q
 
   -- ---- the lists decoded
 
-  has : (nm : List ℕ) (l : TermList) → TermFound bytes at nm (found.List l)
+  has : (nm : List ℕ) (l : TermList) → TermIsFound bytes at nm (found.List l)
       → postings_of q.segment nm ≡ decode documents (list_entry bytes l)
   unfolding postings_of
   has nm l r = rw (r.2 q.segment q.is_open) (nameless documents nm bytes l)
 
-  lacks : (nm : List ℕ) → TermFound bytes at nm found.Absent → postings_of q.segment nm ≡ ok []
+  lacks : (nm : List ℕ) → TermIsFound bytes at nm found.Absent → postings_of q.segment nm ≡ ok []
   unfolding postings_of
   lacks nm r = rw (r q.segment q.is_open)
 
@@ -183,7 +183,7 @@ module _ {bytes : List ℕ} {at : Layout} {a : Rule} {n : Named} {t : Tables} (q
 
       -- the list of a name
       module _ (k : ℕ) (g : k < slots.different) (nm : List ℕ) (m : nm ∈ q.names)
-          (r : TermFound bytes at nm (found.List (list_at slots k))) where
+          (r : TermIsFound bytes at nm (found.List (list_at slots k))) where
         list_decoded : decode documents (list_entry bytes (list k)) ≡ ok (under all.0 nm)
         list_decoded =
             ap (λ l. decode documents (list_entry bytes l)) (holds.list k) ∙ sym (has nm (list_at slots k) r) ∙ under_name nm m

@@ -14,7 +14,7 @@ use Rattle.segment.specs.Names.{precedes}
 use Rattle.read_open.specs.Steps.{Sorted, name_at}
 use Rattle.segment.proofs.Strings.{precedes_irreflexive}
 use Rattle.read_terms.specs.declared.find.TermFound.{TermFound}
-use Rattle.read_terms.specs.Steps.{TermFound}
+use Rattle.read_terms.specs.Steps.{TermIsFound}
 use Rattle.read_open.specs.Opened.{OpenedAs}
 use Rattle.ask_names.specs.declared.slots.Named.{Named}
 use Rattle.ask_names.specs.Steps.{Slots}
@@ -35,7 +35,7 @@ module _ {bytes : List ℕ} {at : Layout} where
     pub names_room : length ns < 128 → SlotsRoom s
     names_room h = rw r.slots (resolved_room r.founds (omega (arith, founds_length r.each)))
 
-    pub names_more : (n : List ℕ) (f : TermFound) {t : Slots} → TermFound bytes at n f → t ≡ with_found s f
+    pub names_more : (n : List ℕ) (f : TermFound) {t : Slots} → TermIsFound bytes at n f → t ≡ with_found s f
         → NamesResolved bytes at (ns ++ (n ∷ [])) t
     names_more n f q e = record {
       founds = r.founds ++ (f ∷ []);
@@ -58,7 +58,7 @@ module _ {bytes : List ℕ} {at : Layout} {whole : List (List ℕ)} where
       names_room p.resolved (omega (arith, ap length p.all, length-append p.taken (n ∷ left)))
 
   pub partly_more : {n : List ℕ} {left : List (List ℕ)} {s t : Slots} → Partly bytes at whole (n ∷ left) s
-      → (f : TermFound) → TermFound bytes at n f → t ≡ with_found s f → Partly bytes at whole left t
+      → (f : TermFound) → TermIsFound bytes at n f → t ≡ with_found s f → Partly bytes at whole left t
   partly_more {n} {left} p f q e = record {
     taken = p.taken ++ (n ∷ []);
     resolved = names_more p.resolved n f q e;
@@ -83,7 +83,7 @@ module _ {bytes : List ℕ} {at : Layout} {whole : List (List ℕ)} where
     pub held_room : Room k t.wanted
     held_room = hold_room p.holds (partly_room p.partly few)
 
-    pub held_more : {k' : Named} {t' : Tables} (f : TermFound) → TermFound bytes at n f → Taken k t f k' t'
+    pub held_more : {k' : Named} {t' : Tables} (f : TermFound) → TermIsFound bytes at n f → Taken k t f k' t'
         → HeldPartly bytes at whole left k' t'
     held_more f q e = record {
       slots = with_found p.slots f;
@@ -104,7 +104,7 @@ module _ {bytes : List ℕ} {at : Layout} where
     pub one_more_room : Room k t.wanted
     one_more_room = hold_room r.holds (names_room r.resolved few)
 
-    pub resolved_one_more : {k' : Named} {t' : Tables} (n : List ℕ) (f : TermFound) → TermFound bytes at n f → Taken k t f k' t'
+    pub resolved_one_more : {k' : Named} {t' : Tables} (n : List ℕ) (f : TermFound) → TermIsFound bytes at n f → Taken k t f k' t'
         → Resolved bytes at (ns ++ (n ∷ [])) k' t'
     resolved_one_more n f q e = record {
       slots = with_found r.slots f;
@@ -125,7 +125,7 @@ one_place {dir} {names} sorted i j h k e =
     apart : (k m : ℕ) → precedes (name_at dir names k) (name_at dir names m) ≡ true → name_at dir names k ≡ name_at dir names m → i ≡ j
     apart k m p q = true_false (sym (rw q at p) ∙ precedes_irreflexive (name_at dir names m))
 
-pub told : {bytes : List ℕ} {at : Layout} → OpenedAs bytes at → ToldApart (TermFound bytes at)
+pub told : {bytes : List ℕ} {at : Layout} → OpenedAs bytes at → ToldApart (TermIsFound bytes at)
 told (s, is) = record {
   alike = λ a b l k r q. (
     λ e. one_place is.sorted l.entry k.entry r.3 q.3 (r.1 ∙ e ∙ sym q.1),
@@ -135,5 +135,5 @@ told (s, is) = record {
 }
 
 pub names_held : {bytes : List ℕ} {at : Layout} → OpenedAs bytes at → {ns : List (List ℕ)} {s : Slots}
-    → NamesResolved bytes at ns s → length ns ≤ 128 → Holding (TermFound bytes at) ns s
+    → NamesResolved bytes at ns s → length ns ≤ 128 → Holding (TermIsFound bytes at) ns s
 names_held is r few = rw r.slots (holding_all (told is) r.each few)

@@ -6,7 +6,7 @@ use Rattle.read_terms.specs.declared.find.TermFound.TheVariants as found
 use Rattle.rules.specs.Words.{mentions}
 use Rattle.read_open.specs.declared.header.Layout.{Layout}
 use Rattle.segment.specs.Results.{◌>>=◌}
-use Rattle.read_terms.specs.Steps.{TermFound}
+use Rattle.read_terms.specs.Steps.{TermIsFound}
 
 -- The names of a question by the terms that they name: `taken` names were taken, they name `different` terms. The name with index i names
 -- term slot[i]; term k's entry is entry[k], its list is list[k], and it is named wanted[k] times. `absent`: some name has no term.
@@ -118,5 +118,5 @@ pub record Numbered (n : ℕ) (slot : List ℕ) (m : ℕ) (wanted : List ℕ) (n
 -- the slots are what the names resolve to, one after the other
 pub record NamesResolved (bytes : List ℕ) (at : Layout) (ns : List (List ℕ)) (s : Slots) : Type 0 where
   pub founds : List TermFound
-  pub each : Founds (TermFound bytes at) ns founds
+  pub each : Founds (TermIsFound bytes at) ns founds
   pub slots : s ≡ resolved no_slots founds

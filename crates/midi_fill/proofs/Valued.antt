@@ -156,7 +156,7 @@ module _ (g : Grid) where
             omega (arith, in_there (step_of g h) r (x / g.steps) (λ e. omega arith), none) in
             let next : (one g s h).inside + steps_in r (bar_of g h) ≡ steps_in (step_of g h ∷ r) (bar_of g h) =
             omega (arith, in_here (step_of g h) r (bar_of g h) refl, w) in
-            rw (i, j, m) (ap₂ ◌∷◌ head (ih ∙ ap₂ ◌∷◌ next (sym (in_later h hs r up))))
+            rw m (rw (i, j) (ap₂ ◌∷◌ head (ih ∙ ap₂ ◌∷◌ next (sym (in_later h hs r up)))))
 
     pub settled_count : (s : One) (hs : List Hit) → s.last ≡ 0 → Grows 0 (map (step_of g) hs)
         → settled g (counts_kind g) s hs ≡ map (steps_in (runs 0 (map (step_of g) hs))) (runs 0 (map (bar_of g) hs))

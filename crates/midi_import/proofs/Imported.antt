@@ -1,35 +1,29 @@
 -- The call behind header and heading, each way out; and the call itself.
 -- Assumes nothing.
 use mathlib.Core.Path.{◌≡◌, refl, sym, ap, subst, ◌∙◌}
-use mathlib.Core.Bool.{Bool, true, false}
 use mathlib.Core.List.{List, ◌++◌}
 use Prim.Native.Nat.{ℕ, ◌*◌, ◌≤◌}
 use native.Mathlib.Omega.{arith}
-use lib.Dec.{leb}
 use lib.ListN.{length, drop}
-use borrow.Author.Tests.{leb-true}
 use Rattle.segment.specs.declared.refusal.Refusal.{Refusal}
 use Rattle.segment.specs.declared.checked.Checked.{Checked}
 use Rattle.segment.specs.declared.checked.Checked.TheVariants as check
 use Rattle.segment.specs.declared.replies.ListTotals.{ListTotals}
 use Rattle.segment.specs.declared.replies.Imported.{Imported}
 use Rattle.segment.specs.declared.replies.Imported.TheVariants as imported
-use Rattle.segment.specs.Refusals.{no_room}
-use Rattle.segment.specs.Results.{Result, ok, refuse, ◌>>=◌, roomy}
+use Rattle.segment.specs.Results.{Result, ok, refuse, ◌>>=◌}
 use Rattle.segment.specs.Steps.{checked}
 use Rattle.segment.proofs.Accepted.{passed_ok, refused_is}
-use Rattle.segment.proofs.Binds.{bind_gives}
 use Rattle.calls.specs.Given.{lists}
 use Rattle.midi_read.specs.declared.track.Hit.{Hit}
 use Rattle.midi_read.specs.declared.chunks.Chunks.{Chunks}
 use Rattle.midi_read.specs.declared.chunks.Chunks.TheVariants as chunked
-use Rattle.midi_read.specs.Files.{Grid, grid, chunks, hits, first_event}
-use Rattle.midi_read.specs.Walks.{walk, over}
+use Rattle.midi_read.specs.Files.{Grid, grid, chunks, hits}
 use Rattle.midi_read.specs.Promise.{grid_answer, ChunksRead}
 use Rattle.midi_bars.specs.Loudness.{AllLists, beside, all_of}
 use Rattle.midi_bars.specs.Imports.{roomy_beside, import_all, import_into, import_answer, import_left}
 use Rattle.midi_fill.proofs.Passed.{framed}
-use Rattle.midi_import.specs.Steps.{room_beside, Chunked, Readable, StoreDone, events_into, EventsImported}
+use Rattle.midi_import.specs.Steps.{room_beside, Chunked, StoreDone, events_into, EventsImported}
 use Rattle.midi_import.specs.Promise.{BarsImported}
 use Rattle.midi_import.proofs.Rooms.{TotalsOf, room_is}
 

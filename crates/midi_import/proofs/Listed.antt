@@ -1,6 +1,6 @@
 -- A file that is read: what its counts say of its lists, and what the second pass leaves.
 -- Assumes nothing.
-use mathlib.Core.Path.{◌≡◌, refl, sym, ap, ap₂, subst, ◌∙◌}
+use mathlib.Core.Path.{◌≡◌, sym, ap, ap₂, subst, ◌∙◌}
 use mathlib.Core.List.{List, [], map}
 use Prim.Native.Nat.{ℕ, ◌*◌, ◌≤◌}
 use native.Mathlib.Omega.{arith}
@@ -27,7 +27,7 @@ use Rattle.midi_lists.specs.Promise.{Summable, HeadsFit, HeadsPut}
 use Rattle.midi_lists.specs.Claims.{HeadsRight, TablesFine}
 use Rattle.midi_lists.proofs.Sounds.{heads_are_right}
 use Rattle.midi_lists.proofs.Tables.{tables_are_fine}
-use Rattle.midi_fill.specs.Stores.{Buffers, put}
+use Rattle.midi_fill.specs.Stores.{Buffers}
 use Rattle.midi_fill.specs.Promise.{Fillable, Filled, FilledSo}
 use Rattle.midi_fill.specs.Claims.{ListsRight, begun}
 use Rattle.midi_fill.proofs.Laid.{postings_room, positions_room}

@@ -4,12 +4,11 @@ use mathlib.Core.Path.{◌≡◌, refl, sym, ap, subst, ◌∙◌}
 use mathlib.Core.List.{List}
 use Prim.Native.Nat.{ℕ, ◌≤◌}
 use native.Mathlib.Omega.{arith}
-use lib.ListN.{length}
 use Rattle.segment.specs.declared.refusal.Refusal.{Refusal}
 use Rattle.segment.specs.Results.{Result, ok, refuse, ◌>>=◌}
 use Rattle.midi_read.specs.declared.track.Hit.{Hit}
 use Rattle.midi_read.specs.Files.{Grid, grid, hits, first_event}
-use Rattle.midi_read.specs.Walks.{walk, over}
+use Rattle.midi_read.specs.Walks.{walk}
 use Rattle.midi_read.proofs.Fine.{read_so}
 use Rattle.midi_count.specs.declared.count.Tallied.{Tallied}
 use Rattle.midi_count.specs.declared.count.Tallied.TheVariants as tallied

@@ -30,7 +30,7 @@ use Rattle.read_open.specs.Steps.{cut}
 use Rattle.read_documents.proofs.Lengths.{len_known, len_absent}
 use Rattle.read_terms.specs.declared.find.TermList.{TermList}
 use Rattle.read_terms.specs.declared.find.TermFound.TheVariants as found
-use Rattle.read_terms.specs.Steps.{TermFound}
+use Rattle.read_terms.specs.Steps.{TermIsFound}
 use Rattle.read_terms.specs.Promise.{DocsAnswered}
 use Rattle.read_terms.proofs.Asking.{df_unnamed, df_absent, df_found}
 use Rattle.read_terms.proofs.Answering.{docs_none, docs_stopped, docs_no_room, docs_filled}
@@ -73,10 +73,10 @@ module _ (bytes : List ℕ) (h : Handle) (name : List ℕ) where
   df_badly bad = record { plain = λ _. df_unnamed bytes name bad }
 
   module _ (u : Usable bytes h) (fine : Passed ≡ checked (well_named name)) where
-    pub df_nowhere : TermFound bytes (layout_of h) name found.Absent → DfChecked bytes h name (frequency.Df 0)
+    pub df_nowhere : TermIsFound bytes (layout_of h) name found.Absent → DfChecked bytes h name (frequency.Df 0)
     df_nowhere at = record { plain = λ of. df_absent bytes name fine (layout_of h) (opened (own_vouches u of)) at }
 
-    pub df_stored : (t : TermList) → TermFound bytes (layout_of h) name (found.List t) → DfChecked bytes h name (frequency.Df t.df)
+    pub df_stored : (t : TermList) → TermIsFound bytes (layout_of h) name (found.List t) → DfChecked bytes h name (frequency.Df t.df)
     df_stored t at = record { plain = λ of. df_found bytes name fine (layout_of h) (opened (own_vouches u of)) t at }
 
 -- ---- the documents of a term

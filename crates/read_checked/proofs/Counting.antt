@@ -12,7 +12,7 @@ use Rattle.segment.specs.Postings.{total_positions}
 use Rattle.read_cursors.specs.Held.{rest_of, PostingAt, positions_there, held_postings}
 use Rattle.read_cursors.specs.Steps.{postings_at}
 use Rattle.read_cursors.proofs.Rising.{positions_few}
-use Rattle.read_terms.specs.Steps.{DecodedList}
+use Rattle.read_terms.specs.Steps.{ListIsDecoded}
 use Rattle.read_terms.proofs.Turns.{posting_turn, no_posting}
 use Rattle.read_positions.specs.Steps.{all_positions}
 use Rattle.read_checked.specs.Steps.{counts_in}
@@ -48,8 +48,8 @@ lengths_total [] = refl
 lengths_total (p ∷ ps) = ap (λ (n : ℕ). length p.positions + n) (lengths_total ps)
 
 -- a decoded list has as many positions as its counts say
-pub list_counted : {bytes name : List ℕ} {start df positions n : ℕ} → DecodedList bytes name start df positions
-    → n ≡ counts_in (held_postings df none (drop start bytes)) → DecodedList bytes name start df n
+pub list_counted : {bytes name : List ℕ} {start df positions n : ℕ} → ListIsDecoded bytes name start df positions
+    → n ≡ counts_in (held_postings df none (drop start bytes)) → ListIsDecoded bytes name start df n
 list_counted d is = record {
   postings = d.postings;
   decoded = d.decoded;

@@ -20,7 +20,7 @@ use Rattle.read_open.specs.Steps.{cut}
 use Rattle.read_open.specs.Opened.{Opens}
 use Rattle.read_terms.specs.declared.find.TermList.{TermList}
 use Rattle.read_terms.specs.declared.find.TermFound.TheVariants as found
-use Rattle.read_terms.specs.Steps.{list_entry, TermFound}
+use Rattle.read_terms.specs.Steps.{list_entry, TermIsFound}
 use Rattle.read_terms.proofs.Finding.{nameless}
 use Rattle.read_terms.proofs.Asking.{list_unnamed, list_absent, list_refused, list_decoded}
 use Rattle.handle.specs.declared.handle.Handle.{Handle}
@@ -48,10 +48,10 @@ module _ (bytes : List ℕ) (h : Handle) (name : List ℕ) where
   documents = held_documents h.documents none (cut bytes (layout_of h)).metadata
 
   module _ (fine : Passed ≡ checked (well_named name)) where
-    pub named_nowhere : TermFound bytes (layout_of h) name found.Absent → ListNamed bytes h name named.Absent
+    pub named_nowhere : TermIsFound bytes (layout_of h) name found.Absent → ListNamed bytes h name named.Absent
     named_nowhere at v = list_absent bytes name fine (layout_of h) (opened v) at
 
-    module _ (t : TermList) (is : TermFound bytes (layout_of h) name (found.List t)) where
+    module _ (t : TermList) (is : TermIsFound bytes (layout_of h) name (found.List t)) where
       -- every list decodes
       pub named_sure : h.level ≡ 2 → ListNamed bytes h name (named.List (record { start = t.start; df = t.df }))
       named_sure top v =

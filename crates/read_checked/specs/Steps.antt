@@ -4,7 +4,7 @@ use Rattle.common.specs.Lists.{total}
 use Rattle.segment.specs.Results.{ok, refuse}
 use Rattle.calls.specs.Reads.{term_list}
 use Rattle.read_cursors.specs.Held.{PostingAt}
-use Rattle.read_terms.specs.Steps.{DecodedList}
+use Rattle.read_terms.specs.Steps.{ListIsDecoded}
 use Rattle.handle.specs.declared.handle.Handle.{Handle}
 use Rattle.handle.specs.Handles.{Vouches}
 use Rattle.read_checked.specs.declared.named.Named.{Named}
@@ -12,7 +12,7 @@ use Rattle.read_checked.specs.declared.named.Named.TheVariants as named
 
 -- as the plain call's decoding of the name, of which the number of positions is not told
 abbrev pub NamedMeans : (bytes name : List ℕ) → Named → Type 0
-NamedMeans bytes name (named.List p) = (positions : ℕ) × DecodedList bytes name p.start p.df positions
+NamedMeans bytes name (named.List p) = (positions : ℕ) × ListIsDecoded bytes name p.start p.df positions
 NamedMeans bytes name named.Absent = term_list bytes name ≡ ok []
 NamedMeans bytes name (named.Refused x) = term_list bytes name ≡ refuse x
 

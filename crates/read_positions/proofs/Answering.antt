@@ -14,7 +14,7 @@ use Rattle.segment.specs.Postings.{total_positions}
 use Rattle.read_cursors.specs.Held.{PostingAt, positions_there, held_postings, posting_of}
 use Rattle.calls.specs.Replies.{fronted}
 use Rattle.calls.specs.Reads.{term_list, term_postings, joined_positions}
-use Rattle.read_terms.specs.Steps.{DecodedList}
+use Rattle.read_terms.specs.Steps.{ListIsDecoded}
 use Rattle.read_terms.proofs.Answering.{docs_are}
 use Rattle.segment.specs.declared.replies.TermTotals.TheVariants as listed
 use Rattle.read_positions.specs.Promise.{PostingsAnswered}
@@ -32,7 +32,7 @@ unfolding total_positions
 joined_many [] = refl
 joined_many (s ∷ ss) = omega (arith, length-append (positions_there s) (all_positions ss), joined_many ss)
 
-module _ {bytes name : List ℕ} {start df total : ℕ} (d : DecodedList bytes name start df total) where
+module _ {bytes name : List ℕ} {start df total : ℕ} (d : ListIsDecoded bytes name start df total) where
   pub positions_many : length (all_positions (held_postings df none (drop start bytes))) ≡ total
   positions_many = joined_many (held_postings df none (drop start bytes)) ∙ ap total_positions d.walked ∙ d.total
 
@@ -59,7 +59,7 @@ module _ (bytes name ids counts places : List ℕ) where
       rw (e, le-leb 0 (length ids) (omega arith), le-leb 0 (length counts) (omega arith), le-leb 0 (length places) (omega arith)) in
       record { reply = rw told; ids_left = rw told; counts_left = rw told; positions_left = rw told }
 
-  module _ {start df total n : ℕ} (d : DecodedList bytes name start df total) (is : n ≡ df) where
+  module _ {start df total n : ℕ} (d : ListIsDecoded bytes name start df total) (is : n ≡ df) where
     pub ids_no_room : length ids < n → PostingsAnswered bytes name ids counts places (listed.Refused (no_room 1 n)) ids counts places
     unfolding term_postings
     ids_no_room h = postings_refused (rw (d.decoded, d.count, ← is, lt-leb n (length ids) h))

@@ -19,7 +19,7 @@ use Rattle.common.specs.Stores.{Stored}
 use Rattle.calls.proofs.Filling.{at_front}
 use Rattle.calls.specs.Reads.{term_list, positions}
 use Rattle.read_positions.specs.Promise.{PositionsAnswered}
-use Rattle.read_terms.specs.Steps.{DecodedList}
+use Rattle.read_terms.specs.Steps.{ListIsDecoded}
 use Rattle.read_positions.proofs.Sought.{sought_none, sought_these, sought_many}
 
 module _ (bytes name : List ℕ) (id : ℕ) (places : List ℕ) where
@@ -40,7 +40,7 @@ module _ (bytes name : List ℕ) (id : ℕ) (places : List ℕ) where
   no_list e = nothing (rw (e, le-leb 0 (length places) (omega arith)))
 
   -- a list that was decoded, and the cursor that was sought in it
-  module _ {start df total : ℕ} (d : DecodedList bytes name start df total) (first here : Postings)
+  module _ {start df total : ℕ} (d : ListIsDecoded bytes name start df total) (first here : Postings)
       (starts : postings_from bytes first ≡ held_postings df none (drop start bytes)) (sought : SoughtPosting bytes id first here) where
     pub not_listed : (0 < here.remaining → here.doc.0 ≡ id → ⊥) → PositionsAnswered bytes name id places (counted.Count 0) places
     unfolding positions

@@ -16,11 +16,11 @@ use Rattle.segment.specs.declared.replies.Counted.TheVariants as counted
 use Rattle.calls.specs.Replies.{fronted, docs_of}
 use Rattle.calls.specs.Reads.{term_list, docs_with_term}
 use Rattle.read_terms.specs.Promise.{DocsAnswered}
-use Rattle.read_terms.specs.Steps.{DecodedList}
+use Rattle.read_terms.specs.Steps.{ListIsDecoded}
 
 -- ---- postings by offset and by content
 
-module _ {bytes name : List ℕ} {start df total : ℕ} (d : DecodedList bytes name start df total) where
+module _ {bytes name : List ℕ} {start df total : ℕ} (d : ListIsDecoded bytes name start df total) where
   pub spots_many : length (held_postings df none (drop start bytes)) ≡ df
   spots_many = sym (length-map (held_postings df none (drop start bytes)) posting_of) ∙ ap length d.walked ∙ d.count
 
@@ -43,7 +43,7 @@ module _ (bytes name ids : List ℕ) where
       let told : docs_with_term bytes name (length ids) ≡ ok [] = rw (e, le-leb 0 (length ids) (omega arith)) in
       record { reply = rw told; ids_left = rw told }
 
-  module _ {start df total n : ℕ} (d : DecodedList bytes name start df total) (is : n ≡ df) where
+  module _ {start df total n : ℕ} (d : ListIsDecoded bytes name start df total) (is : n ≡ df) where
     pub docs_no_room : length ids < n → DocsAnswered bytes name ids (counted.Refused (no_room 1 n)) ids
     unfolding docs_with_term
     docs_no_room h = docs_refused (rw (d.decoded, d.count, ← is, lt-leb n (length ids) h))

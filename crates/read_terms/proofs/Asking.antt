@@ -27,7 +27,7 @@ use Rattle.segment.proofs.Accepted.{passed_ok, refused_is}
 use Rattle.read_terms.specs.declared.find.TermList.{TermList}
 use Rattle.read_terms.specs.declared.find.TermFound.TheVariants as found
 use Rattle.calls.specs.Lookups.{well_named, postings_of}
-use Rattle.read_terms.specs.Steps.{list_entry, TermFound, DecodedList}
+use Rattle.read_terms.specs.Steps.{list_entry, TermIsFound, ListIsDecoded}
 use Rattle.read_terms.proofs.Finding.{nameless, tally_ok, tally_refused}
 use Rattle.read_terms.proofs.Longer.{decoded_walked, read_many, read_counts}
 use Rattle.segment.specs.declared.replies.DocFreq.TheVariants as frequency
@@ -75,7 +75,7 @@ module _ (bytes name : List ℕ) where
     module _ (l : Layout) (opens : Opens bytes (opening.Layout l)) where
       -- ---- the entry
 
-      module _ (absent : TermFound bytes l name found.Absent) where
+      module _ (absent : TermIsFound bytes l name found.Absent) where
         pub df_absent : frequency.Df 0 ≡ df_answer (df bytes name)
         unfolding df
         df_absent = rw ((passed_ok (well_named name) fine).1, opens.1, absent opens.0 opens.2)
@@ -84,7 +84,7 @@ module _ (bytes name : List ℕ) where
         unfolding term_list postings_of
         list_absent = rw ((passed_ok (well_named name) fine).1, opens.1, absent opens.0 opens.2)
 
-      module _ (t : TermList) (is : TermFound bytes l name (found.List t)) where
+      module _ (t : TermList) (is : TermIsFound bytes l name (found.List t)) where
         pub df_found : frequency.Df t.df ≡ df_answer (df bytes name)
         unfolding df
         df_found = rw ((passed_ok (well_named name) fine).1, opens.1, is.2 opens.0 opens.2)
@@ -102,7 +102,7 @@ module _ (bytes name : List ℕ) where
           pub list_refused : {x : Refusal} → r ≡ tally.Refused x → term_list bytes name ≡ refuse x
           list_refused e = list_is ∙ tally_refused total_positions _ (sym e ∙ told)
 
-          pub list_decoded : {n : ℕ} → r ≡ tally.Positions n → DecodedList bytes name t.start t.df n
+          pub list_decoded : {n : ℕ} → r ≡ tally.Positions n → ListIsDecoded bytes name t.start t.df n
           list_decoded e =
               let (ps, ok_is, total) = tally_ok total_positions _ (sym e ∙ told) in
               let walk = decoded_walked bytes t _ ok_is in

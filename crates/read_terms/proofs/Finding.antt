@@ -26,7 +26,7 @@ use Rattle.read_open.proofs.Fitting.{own_fits}
 use Rattle.read_open.proofs.Lookup.{located_at, located_nowhere}
 use Rattle.read_terms.specs.declared.find.TermList.{TermList}
 use Rattle.read_terms.specs.declared.find.TermFound.TheVariants as found
-use Rattle.read_terms.specs.Steps.{entry_named, list_entry, ListLies, EntryLies, EntryList, TermFound}
+use Rattle.read_terms.specs.Steps.{entry_named, list_entry, ListLies, EntryLies, EntryList, TermIsFound}
 
 -- where entry i's list lies in the lists
 abbrev list_at : List ℕ → Layout → ℕ → ℕ
@@ -79,7 +79,7 @@ module _ {bytes : List ℕ} {l : Layout} {i : ℕ} (e : EntryLies bytes l i) whe
 -- an entry that was located by its name
 pub found_list : {bytes : List ℕ} {l : Layout} {name : List ℕ} {i : ℕ} {t : TermList}
     → Located (cut bytes l).directory (cut bytes l).names l.terms name (place.At i) → EntryList bytes l i t
-    → TermFound bytes l name (found.List t)
+    → TermIsFound bytes l name (found.List t)
 found_list {name = name} {i = i} at e = (
   e.inside,
   rw e.place at.1,
@@ -89,11 +89,11 @@ found_list {name = name} {i = i} at e = (
 
 -- no entry has the name, or the list of the one that has it lies outside: neither can be in an open segment that has the name
 pub found_none : {bytes : List ℕ} {l : Layout} {name : List ℕ}
-    → LocatedAny (cut bytes l).directory (cut bytes l).names l.terms name place.Absent → TermFound bytes l name found.Absent
+    → LocatedAny (cut bytes l).directory (cut bytes l).names l.terms name place.Absent → TermIsFound bytes l name found.Absent
 found_none {name = name} at s is = located_nowhere is name (at is.sorted)
 
 pub found_outside : {bytes : List ℕ} {l : Layout} (name : List ℕ) (i : ℕ) → i < l.terms → (ListLies bytes l i → ⊥)
-    → TermFound bytes l name found.Absent
+    → TermIsFound bytes l name found.Absent
 found_outside name i h out s is = absurd (out (is.list i h))
 
 -- the checksum of a list, then its postings

@@ -51,18 +51,18 @@ pub record EntryList (bytes : List ℕ) (l : Layout) (i : ℕ) (t : TermList) : 
       → get_or s.entries i no_entry ≡ entry_named (name_at (cut bytes l).directory (cut bytes l).names i) bytes t
 
 -- the entry of a name in the segment, whichever segment the layout is said to be of
-abbrev pub TermFound : (bytes : List ℕ) (l : Layout) (name : List ℕ) → TermFound → Type 0
-TermFound bytes l name (found.List t) =
+abbrev pub TermIsFound : (bytes : List ℕ) (l : Layout) (name : List ℕ) → TermFound → Type 0
+TermIsFound bytes l name (found.List t) =
     ListInside bytes t
     × (name_at (cut bytes l).directory (cut bytes l).names t.entry ≡ name)
     × ((s : Segment) → IsOpen bytes l s → entry_of s.entries name ≡ some (entry_named name bytes t))
     × (t.entry < l.terms)
-TermFound bytes l name found.Absent = (s : Segment) → IsOpen bytes l s → entry_of s.entries name ≡ none
+TermIsFound bytes l name found.Absent = (s : Segment) → IsOpen bytes l s → entry_of s.entries name ≡ none
 
 -- What a term's decoded list means.
 
 -- a decoded list by offset: a cursor from there walks the postings that the definition decodes
-pub record DecodedList (bytes : List ℕ) (name : List ℕ) (start df positions : ℕ) : Type 0 where
+pub record ListIsDecoded (bytes : List ℕ) (name : List ℕ) (start df positions : ℕ) : Type 0 where
   pub postings : List Posting
   pub decoded : term_list bytes name ≡ ok postings
   pub walked : map posting_of (held_postings df none (drop start bytes)) ≡ postings
@@ -71,6 +71,6 @@ pub record DecodedList (bytes : List ℕ) (name : List ℕ) (start df positions 
   pub total : total_positions postings ≡ positions
 
 abbrev pub Decodes : (bytes name : List ℕ) → Decoding → Type 0
-Decodes bytes name (decoding.List d) = DecodedList bytes name d.start d.df d.positions
+Decodes bytes name (decoding.List d) = ListIsDecoded bytes name d.start d.df d.positions
 Decodes bytes name decoding.Absent = term_list bytes name ≡ ok []
 Decodes bytes name (decoding.Refused x) = term_list bytes name ≡ refuse x

@@ -5,7 +5,7 @@ ghost use Rattle.read_open.specs.Steps.{SectionsFollow, cut};
 ghost use Rattle.read_cursors.specs.Held.{held_documents};
 ghost use Rattle.segment.specs.Postings.{decode};
 ghost use Rattle.read_lists.specs.Steps.{Marks, tallied, tallied_in};
-ghost use Rattle.read_terms.specs.Steps.{ListInside, ListLies, EntryLies, EntryList, TermFound, list_entry};
+ghost use Rattle.read_terms.specs.Steps.{ListInside, ListLies, EntryLies, EntryList, TermIsFound, list_entry};
 ghost use Rattle.read_open.specs.Opened.{Fits};
 
 use crc32::checksum::crc32;
@@ -76,7 +76,7 @@ pub fn entry_list(bytes: &[u8], at: Layout, i: usize) -> TermList
 // The list of the term with a name; none where it does not lie in the bytes.
 pub fn find_term(bytes: &[u8], at: Layout, name: &[u8]) -> TermFound
     requires { Fits bytes.now at }
-    ensures { TermFound bytes.now at name.now result }
+    ensures { TermIsFound bytes.now at name.now result }
 {
     let names = at.names;
     let metadata = at.metadata;

@@ -30,7 +30,7 @@ use Rattle.read_open.specs.Steps.{cut}
 use Rattle.read_open.specs.Opened.{Opens}
 use Rattle.read_cursors.proofs.DocumentsHeld.{held_rise, known_small}
 use Rattle.calls.specs.Listing.{column}
-use Rattle.calls.specs.Sheet.{heading, sound_lines, sheet, known_bar, bar_sheet, sheet_into}
+use Rattle.calls.specs.Sheet.{heading, sheet, known_bar, bar_sheet, sheet_into}
 use Rattle.calls.specs.Replies.{count_of, filled}
 use Rattle.show_columns.proofs.Columns.{column_length}
 use Rattle.show_sheet.specs.declared.bar.Bar.{Bar}

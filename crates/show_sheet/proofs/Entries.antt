@@ -9,8 +9,8 @@ use lib.ListN.{length, drop}
 use Rattle.common.specs.Stores.{Stored}
 use Rattle.segment.specs.declared.refusal.Refusal.{Refusal}
 use Rattle.segment.specs.declared.replies.Counted.TheVariants as counted
-use Rattle.segment.specs.Results.{Result, ok, refuse, ◌>>=◌}
-use Rattle.segment.specs.Records.{Document, Posting, Entry}
+use Rattle.segment.specs.Results.{Result, ok, refuse}
+use Rattle.segment.specs.Records.{Document, Posting}
 use Rattle.segment.specs.Postings.{decode}
 use Rattle.segment.proofs.Binds.{ok_same, bind_gives}
 use Rattle.read_cursors.specs.declared.postings.Postings.{Postings}
@@ -22,7 +22,7 @@ use Rattle.read_lists.specs.Steps.{positions_in, tallied_in}
 use Rattle.read_open.specs.declared.header.Layout.{Layout}
 use Rattle.read_open.specs.Steps.{cut, name_at}
 use Rattle.read_terms.specs.declared.find.TermList.{TermList}
-use Rattle.read_terms.specs.Steps.{EntryList, entry_named, list_entry}
+use Rattle.read_terms.specs.Steps.{EntryList, list_entry}
 use Rattle.read_terms.proofs.Finding.{nameless, tally_refused}
 use Rattle.read_terms.proofs.InDocument.{told_in, own_few}
 use Rattle.read_terms.proofs.Longer.{decoded_walked, read_counts}

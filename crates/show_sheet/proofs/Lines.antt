@@ -1,8 +1,8 @@
 -- The lines of a sheet one entry after another: measured, and stored.
 -- Assumes nothing.
-use mathlib.Core.Path.{◌≡◌, refl, sym, ap, ap₂, ◌∙◌}
-use mathlib.Core.List.{List, [], ◌∷◌, ◌++◌, append-nil}
-use Prim.Native.Nat.{ℕ, zero, suc, ◌+◌, ◌-◌, ◌≤◌, ◌<◌}
+use mathlib.Core.Path.{◌≡◌, refl, sym, ap, ◌∙◌}
+use mathlib.Core.List.{List, [], ◌∷◌, ◌++◌}
+use Prim.Native.Nat.{ℕ, suc, ◌+◌, ◌-◌, ◌≤◌, ◌<◌}
 use native.Mathlib.Nat.{add-zero}
 use native.Mathlib.Numerals.{add-one}
 use native.Mathlib.Omega.{arith}
@@ -14,12 +14,12 @@ use Rattle.segment.specs.declared.refusal.Refusal.{Refusal}
 use Rattle.segment.specs.declared.replies.Counted.{Counted}
 use Rattle.segment.specs.declared.replies.Counted.TheVariants as counted
 use Rattle.segment.specs.Results.{Result, ok, refuse, ◌>>=◌}
-use Rattle.segment.specs.Records.{Document, Posting, Term, Entry, Segment}
+use Rattle.segment.specs.Records.{Posting, Term, Entry}
 use Rattle.segment.specs.Postings.{decode}
 use Rattle.segment.specs.Contents.{decode_all}
-use Rattle.segment.proofs.Binds.{ok_same, refuse_ok, bind_gives}
+use Rattle.segment.proofs.Binds.{refuse_ok}
 use Rattle.read_open.specs.declared.header.Layout.{Layout}
-use Rattle.read_open.specs.Opened.{IsOpen, no_entry}
+use Rattle.read_open.specs.Opened.{no_entry}
 use Rattle.calls.specs.Sheet.{sound_lines}
 use Rattle.calls.specs.Replies.{count_of}
 use Rattle.show_sheet.specs.declared.bar.Bar.{Bar}

@@ -1,5 +1,5 @@
 -- The lines of a sheet as the code comes to them: by a layout of the segment, one entry of the directory after another.
-use Rattle.std.specs.Prelude.{ℕ, zero, suc, ◌+◌, ◌≤◌, ◌<◌, ◌≡◌, List, [], ◌++◌, leb, length}
+use Rattle.std.specs.Prelude.{ℕ, zero, suc, ◌+◌, ◌≤◌, ◌≡◌, List, [], ◌++◌, leb, length}
 use Rattle.std.proofs.Math.Option.{none, some}
 use Rattle.segment.specs.Refusals.{bar_too_long}
 use Rattle.segment.specs.Results.{Result, ok, refuse, ◌>>=◌, check, roomy}

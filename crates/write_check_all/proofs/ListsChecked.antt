@@ -14,7 +14,7 @@ use Rattle.segment.specs.declared.checked.Checked.{Checked}
 use Rattle.segment.specs.declared.checked.Checked.TheVariants.{Passed, Refused}
 use Rattle.segment.specs.Refusals.{too_large, list_shape, invalid_layout, empty_term_posting_list}
 use Rattle.segment.specs.Results.{Result, ok, ◌>>=◌, check}
-use Rattle.segment.specs.Records.{Document, Posting, Term, rises, between}
+use Rattle.segment.specs.Records.{Document, Posting, Term, between}
 use Rattle.segment.specs.Metadata.{document}
 use Rattle.segment.specs.Steps.{checked, earlier}
 use Rattle.segment.specs.Written.{lists_bytes}

@@ -1,8 +1,8 @@
 -- The writer over the lists that hold the records' ids and lengths is the call over records.
 -- Assumes nothing.
-use mathlib.Core.Path.{◌≡◌, refl, sym, ap, ◌∙◌}
+use mathlib.Core.Path.{◌≡◌, refl, sym, ap, ◌∙◌, subst}
 use mathlib.Core.Bool.{Bool, true, false, cond, ◌&&◌}
-use mathlib.Core.List.{List, map}
+use mathlib.Core.List.{List}
 use Prim.Native.Nat.{ℕ}
 use lib.Dec.{leb, eqb}
 use lib.ListN.{length, length-map}
@@ -22,8 +22,8 @@ use Rattle.write_segment.specs.Promise.{Wrote}
 use Rattle.segment.proofs.Accepted.{refused_is, passed_ok}
 use Rattle.write_records.specs.declared.exchange.DocumentLength.{DocumentLength}
 use Rattle.write_records.specs.Promise.{taken_apart, WroteRecords}
-use Rattle.write_records.specs.Steps.{exchanged, others, misfit, check_places, write_apart, WroteApart}
-use Rattle.write_records.proofs.Exchanging.{ids_taken, lengths_taken, ids_long, lengths_long}
+use Rattle.write_records.specs.Steps.{Three, three, exchanged, others, misfit, check_places, write_apart, WroteApart}
+use Rattle.write_records.proofs.Exchanging.{given_back, ids_taken, lengths_taken, ids_long, lengths_long}
 
 either : {P : Type 0} (t : Bool) → (t ≡ true → P) → (t ≡ false → P) → P
 either true f g = f refl
@@ -123,7 +123,7 @@ module _ (ds : List DocumentLength) (xs ys text ends posting_counts posting_ids 
       (λ t. either (small handed_in) (λ s. rw (i, j, t, small_is, s, count_is, t)) (λ s. rw (i, j, t, small_is, s)))
 
   -- everything lent, as it is afterwards
-  pub wrote_records : {out out' : List ℕ} {r : Written} → WroteApart (length ds) standing out r out'
+  wrote_records : {out out' : List ℕ} {r : Written} → WroteApart (length ds) standing out r out'
       → WroteRecords handed_in ds xs ys out r ds xs ys out'
   wrote_records {out} w = record {
     reply = w.reply ∙ rw (apart_is (length out));
@@ -132,3 +132,15 @@ module _ (ds : List DocumentLength) (xs ys text ends posting_counts posting_ids 
     ids_left = refl;
     lengths_left = refl;
   }
+
+  -- exchanged, written and exchanged back
+  pub wrote_between : {ds' ds'' : List DocumentLength} {xs' ys' xs'' ys'' out out' : List ℕ} {r : Written}
+      → three ds' xs' ys' ≡ exchanged ds xs ys → three ds'' xs'' ys'' ≡ exchanged ds' xs' ys' → length ds' ≡ length ds
+      → WroteApart (length ds') (lists xs' ys' text ends posting_counts posting_ids position_counts positions) out r out'
+      → WroteRecords handed_in ds xs ys out r ds'' xs'' ys'' out'
+  wrote_between {ds'} {ds''} {xs'} {ys'} {xs''} {ys''} {out} {out'} {r} e f long w =
+      let lists_of : List ℕ → List ℕ → Lists = λ is ls. lists is ls text ends posting_counts posting_ids position_counts positions in
+      let counted = subst (λ (n : ℕ). WroteApart n (lists_of xs' ys') out r out') long w in
+      let taken = subst (λ (z : Three). WroteApart (length ds) (lists_of z.ids z.lengths) out r out') e counted in
+      subst (λ (z : Three). WroteRecords handed_in ds xs ys out r z.documents z.ids z.lengths out')
+      (sym (given_back e f)) (wrote_records taken)

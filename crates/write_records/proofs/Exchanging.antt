@@ -1,10 +1,11 @@
 -- The walk index by index leaves what the definition says, and is its own inverse.
 -- Assumes nothing.
-use mathlib.Core.Path.{◌≡◌, refl, sym, ap, ◌∙◌}
+use mathlib.Core.Path.{◌≡◌, refl, ap, ◌∙◌}
 use mathlib.Core.List.{List, [], ◌∷◌, map}
-use Prim.Native.Nat.{ℕ, zero, suc, ◌≤◌}
+use Prim.Native.Nat.{ℕ, zero, suc, ◌+◌, ◌≤◌}
 use native.Mathlib.Omega.{arith}
-use lib.ListN.{length, get_or, set, length-set}
+use Rattle.std.proofs.Math.Numerals.{add-one}
+use lib.ListN.{length, get_or, set}
 use Rattle.write_records.specs.declared.exchange.DocumentLength.{DocumentLength}
 use Rattle.write_records.specs.Steps.{Three, three, document, before, exchanged, Least}
 
@@ -24,21 +25,10 @@ unfoldable pub after : ℕ → Three → Three
 after zero s = s
 after (suc i) s = swap_at i (after i s)
 
-module _ (s : Three) where
-  pub after_documents : (i : ℕ) → length (after i s).documents ≡ length s.documents
-  unfolding after
-  after_documents zero = refl
-  after_documents (suc i) = length-set (after i s).documents i _ ∙ after_documents i
-
-  pub after_ids : (i : ℕ) → length (after i s).ids ≡ length s.ids
-  unfolding after
-  after_ids zero = refl
-  after_ids (suc i) = length-set (after i s).ids i _ ∙ after_ids i
-
-  pub after_lengths : (i : ℕ) → length (after i s).lengths ≡ length s.lengths
-  unfolding after
-  after_lengths zero = refl
-  after_lengths (suc i) = length-set (after i s).lengths i _ ∙ after_lengths i
+-- one index more: what a turn of the walk leaves
+pub after_more : (i : ℕ) (s t : Three) → t ≡ after i s → swap_at i t ≡ after (i + 1) s
+unfolding after
+after_more i s t e = rw add-one (ap (swap_at i) e)
 
 -- the walk over one index more is the first index, then the walk over the others
 after_cons : (d : DocumentLength) (x y i : ℕ) (s : Three)
@@ -80,6 +70,13 @@ exchanged_twice [] xs ys = refl
 exchanged_twice (d ∷ ds) [] ys = refl
 exchanged_twice (d ∷ ds) (x ∷ xs) [] = refl
 exchanged_twice (d ∷ ds) (x ∷ xs) (y ∷ ys) = ap (before d x y) (exchanged_twice ds xs ys)
+
+-- two exchanges, one after the other
+pub given_back : {ds ds' ds'' : List DocumentLength} {xs ys xs' ys' xs'' ys'' : List ℕ}
+    → three ds' xs' ys' ≡ exchanged ds xs ys → three ds'' xs'' ys'' ≡ exchanged ds' xs' ys'
+    → three ds'' xs'' ys'' ≡ three ds xs ys
+given_back {ds} {xs = xs} {ys = ys} e f =
+    f ∙ ap (λ (z : Three). exchanged z.documents z.ids z.lengths) e ∙ exchanged_twice ds xs ys
 
 pub ids_taken : (ds : List DocumentLength) (xs ys : List ℕ) → length xs ≡ length ds → length ys ≡ length ds
     → (exchanged ds xs ys).ids ≡ map (λ d. d.id.0) ds

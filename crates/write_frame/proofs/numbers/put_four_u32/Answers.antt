@@ -1,0 +1,7 @@
+-- Four stores, one behind the other.
+use Rattle.common.proofs.Stores.{stored_four}
+use Rattle.write_frame.proofs.numbers.put_four_u32.Goals as goal
+
+pub returns : goal.returns
+returns c =
+    stored_four c.put_u32-second.ensures c.put_u32-third.ensures c.put_u32-fourth.ensures c.put_u32.ensures
