@@ -131,12 +131,6 @@ pub extern "C" fn pstp_near_match_terms_strs_checked(
         a ids.new) result }
 {
     pstp::handles::pstp_near_match_terms_strs_checked(
-        bytes,
-        handle,
-        text,
-        ends,
-        window,
-        ordered,
-        ids,
+        bytes, handle, text, ends, window, ordered, ids,
     )
 }

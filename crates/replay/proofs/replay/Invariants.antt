@@ -1,4 +1,4 @@
-use Rattle.std.proofs.Common.{length, ◌-◌, ◌≤◌, ◌≡◌}
+use Rattle.std.proofs.Common.{◌-◌}
 use Rattle.replay.proofs.replay.Given as goal
 
 abbrev pub decreases-loop-i : goal.decreases-loop-i

@@ -1,4 +1,4 @@
-use Rattle.std.proofs.Common.{length, ◌-◌, ◌≤◌, ◌≡◌}
+use Rattle.std.proofs.Common.{length, ◌-◌, ◌≤◌}
 use Rattle.replay_list.proofs.buffers.begins_with.Given as goal
 
 abbrev pub invariant-loop-i : goal.invariant-loop-i

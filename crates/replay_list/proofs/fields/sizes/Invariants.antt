@@ -1,4 +1,4 @@
-use Rattle.std.proofs.Common.{length, ◌-◌, ◌≤◌, ◌≡◌}
+use Rattle.std.proofs.Common.{◌-◌}
 use Rattle.replay_list.proofs.fields.sizes.Given as goal
 
 abbrev pub decreases-loop-part : goal.decreases-loop-part
