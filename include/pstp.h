@@ -6,7 +6,7 @@
  * looks a length up in lists of the caller's own, the calls with a handle (pstp_check), for a segment that is checked once and asked often,
  * and those on a pad (pstp_pad_save), which holds bars before they are written. docs/FORMAT.md describes the format, the order of the
  * checks and the rules of the search; docs/GLOSSARY.md explains the words.
- * Link with libpstp.a (`rt staticlib pstp`, x86-64 Linux). C99 and C++.
+ * Link with libpstp.a (`tests/staticlib`, x86-64 Linux). C99 and C++.
  *
  * What every call guarantees
  *

@@ -1,4 +1,4 @@
-//! Links libpstp.a, from the directory PSTP_LIB_DIR or from where `rt staticlib pstp` puts it.
+//! Links libpstp.a, from the directory PSTP_LIB_DIR or from where `tests/staticlib` puts it.
 
 use std::env;
 use std::path::PathBuf;
@@ -13,7 +13,7 @@ fn main() {
     let library = dir.join("libpstp.a");
     assert!(
         library.is_file(),
-        "{} is not there: run `rt staticlib pstp` in the repository, or set PSTP_LIB_DIR",
+        "{} is not there: run `tests/staticlib` in the repository, or set PSTP_LIB_DIR",
         library.display()
     );
     println!("cargo:rerun-if-changed={}", library.display());

@@ -5,6 +5,8 @@ use c_reply::reply::Reply;
 use replay_list::fields::{bytes_at, number_at, size_of, sizes};
 use replay_list::list::{fills, next_case};
 use replay_list::replies::reply_at;
+use std::io;
+use std::io::Read;
 
 // How long a case's head is.
 const HEAD: usize = 100;
@@ -98,7 +100,7 @@ fn is_whole(case: &[u8], end: usize) -> bool {
 }
 
 // The next case at the front of the slice; false where the list ends, or has no whole case there.
-pub fn read_case(fd: i32, case: &mut [u8; 4096]) -> bool {
-    let end = next_case(fd, case, HEAD);
-    HEAD <= end && is_whole(case, end)
+pub fn read_case<R: Read>(from: &mut R, case: &mut [u8; 4096]) -> io::Result<bool> {
+    let end = next_case(from, case, HEAD)?;
+    Ok(HEAD <= end && is_whole(case, end))
 }

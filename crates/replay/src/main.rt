@@ -13,59 +13,66 @@ mod run;
 
 use case::read_case;
 use print::{put_calls, put_difference, put_kinds};
+use program_io::read_full;
 use replay_list::fields::number_at;
 use replay_list::list::{is_at_end, is_list};
 use replay_list::print::{put_malformed, put_no_end, put_no_list, put_total};
 use replay_list::totals::count;
 use run::run;
+use std::fs::File;
+use std::io::Read;
+use std::{fs, io};
 
 // One more case differs: shown if it is among the first ten.
-fn difference(failures: u32, i: u32, call: u32) -> u32 {
+fn difference(rt: &impl Print, failures: u32, i: u32, call: u32) -> io::Result<u32> {
     if failures < 10 {
-        put_difference(i, call);
+        put_difference(rt, i, call)?;
     }
-    std::num::wrapping_add_u32(failures, 1)
+    Ok(std::num::wrapping_add_u32(failures, 1))
 }
 
 // The cases of a list, after its head.
-fn replay(fd: i32, cases: u32) {
-    let mut case = io::buffer();
+fn replay<R: Read>(rt: &impl Print, from: &mut R, cases: u32) -> io::Result<()> {
+    let mut case = [0u8; 4096];
     let mut asked = [0u64; 16];
     let mut failed = [0u64; 16];
     let mut kinds = [0u64; 16];
     let mut failures: u32 = 0;
     let mut i: u32 = 0;
     while i < cases {
-        if !read_case(fd, &mut case) {
-            put_malformed(i);
-            return;
+        if !read_case(from, &mut case)? {
+            return put_malformed(rt, i);
         }
         let outcome = run(&case);
         count(&mut asked, outcome.call);
         count(&mut kinds, outcome.kind);
         if !outcome.same {
             count(&mut failed, outcome.call);
-            failures = difference(failures, i, outcome.call);
+            failures = difference(rt, failures, i, outcome.call)?;
         }
         i += 1;
     }
-    if !is_at_end(fd) {
-        put_no_end();
-        return;
+    if !is_at_end(from)? {
+        return put_no_end(rt);
     }
-    put_calls(&asked, &failed);
-    put_kinds(&kinds);
-    put_total(cases, failures);
+    put_calls(rt, &asked, &failed)?;
+    put_kinds(rt, &kinds)?;
+    put_total(rt, cases, failures)
 }
 
-fn main() {
-    let fd = os::open_read(b"cases");
+fn replay_file(rt: &HostRuntime, file: &mut File) -> io::Result<()> {
     let mut head = [0u8; 16];
-    let n = io::read_full(fd, &mut head);
+    let n = read_full(file, &mut head)?;
     if n == 16 && is_list(&head, b"PSTPCASE") {
-        replay(fd, number_at(&head, 12));
+        replay(rt, file, number_at(&head, 12))
     } else {
-        put_no_list();
+        put_no_list(rt)
     }
-    libc::close(fd);
+}
+
+fn main(rt: HostRuntime) -> io::Result<()> {
+    match fs::open(&rt, "cases") {
+        Ok(mut file) => replay_file(&rt, &mut file),
+        Err(_) => put_no_list(&rt),
+    }
 }

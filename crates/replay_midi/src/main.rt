@@ -10,6 +10,7 @@ mod case;
 mod run;
 
 use case::read_case;
+use program_io::read_full;
 use replay_list::fields::number_at;
 use replay_list::list::{is_at_end, is_list};
 use replay_list::print::{
@@ -17,58 +18,64 @@ use replay_list::print::{
 };
 use replay_list::totals::count;
 use run::run;
+use std::fs::File;
+use std::io::Read;
+use std::{fs, io};
 
 // One more case differs: shown if it is among the first ten.
-fn difference(failures: u32, i: u32) -> u32 {
+fn difference(rt: &impl Print, failures: u32, i: u32) -> io::Result<u32> {
     if failures < 10 {
-        put_case(i);
-        put(b" differs\n");
+        put_case(rt, i)?;
+        put(rt, b" differs\n")?;
     }
-    std::num::wrapping_add_u32(failures, 1)
+    Ok(std::num::wrapping_add_u32(failures, 1))
 }
 
 // Accepted, no room, outside the rules, a bar too far.
-fn put_kinds(kinds: &[u64; 16]) {
-    put_kind(0, kinds[0]);
-    put_kind(13, kinds[13]);
-    put_kind(14, kinds[14]);
-    put_kind(15, kinds[15]);
+fn put_kinds(rt: &impl Print, kinds: &[u64; 16]) -> io::Result<()> {
+    put_kind(rt, 0, kinds[0])?;
+    put_kind(rt, 13, kinds[13])?;
+    put_kind(rt, 14, kinds[14])?;
+    put_kind(rt, 15, kinds[15])
 }
 
 // The cases of a list, after its head.
-fn replay(fd: i32, cases: u32) {
-    let mut case = io::buffer();
+fn replay<R: Read>(rt: &impl Print, from: &mut R, cases: u32) -> io::Result<()> {
+    let mut case = [0u8; 4096];
     let mut kinds = [0u64; 16];
     let mut failures: u32 = 0;
     let mut i: u32 = 0;
     while i < cases {
-        if !read_case(fd, &mut case) {
-            put_malformed(i);
-            return;
+        if !read_case(from, &mut case)? {
+            return put_malformed(rt, i);
         }
         let outcome = run(&case);
         count(&mut kinds, outcome.kind);
         if !outcome.same {
-            failures = difference(failures, i);
+            failures = difference(rt, failures, i)?;
         }
         i += 1;
     }
-    if !is_at_end(fd) {
-        put_no_end();
-        return;
+    if !is_at_end(from)? {
+        return put_no_end(rt);
     }
-    put_kinds(&kinds);
-    put_total(cases, failures);
+    put_kinds(rt, &kinds)?;
+    put_total(rt, cases, failures)
 }
 
-fn main() {
-    let fd = os::open_read(b"cases");
+fn replay_file(rt: &HostRuntime, file: &mut File) -> io::Result<()> {
     let mut head = [0u8; 16];
-    let n = io::read_full(fd, &mut head);
+    let n = read_full(file, &mut head)?;
     if n == 16 && is_list(&head, b"PSTPMIDI") {
-        replay(fd, number_at(&head, 12));
+        replay(rt, file, number_at(&head, 12))
     } else {
-        put_no_list();
+        put_no_list(rt)
     }
-    libc::close(fd);
+}
+
+fn main(rt: HostRuntime) -> io::Result<()> {
+    match fs::open(&rt, "cases") {
+        Ok(mut file) => replay_file(&rt, &mut file),
+        Err(_) => put_no_list(&rt),
+    }
 }

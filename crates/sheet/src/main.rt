@@ -8,82 +8,105 @@
 mod id;
 
 use id::{BarId, read_id};
-use libc::{STDERR_FILENO, STDOUT_FILENO};
+use program_io::{argument, argument_count, open_named, put_failure, read_full};
 use segment::ids::DocId;
 use segment::refusal::{Refusal, too_large};
 use segment::replies::Counted;
 use show_listing::list::list_refusal;
 use show_print::paper::write_sheet;
+use std::fs::File;
+use std::io;
+use std::io::{Print, Write};
 
 // A refusal's line. No index of a refusal has more than ten digits here.
-fn print_refusal(x: Refusal) {
+fn print_refusal(rt: &HostRuntime, x: Refusal) -> io::Result<()> {
     let mut line = [0u8; 31];
     if x.index < 10000000000 {
         list_refusal(x, &mut line);
-        io::write_all(STDOUT_FILENO, &line);
+        Print::write_all(rt, &line)?;
     }
+    Ok(())
 }
 
-fn print_sheet(segment: &[u8], id: u32, text: &mut [u8; 1048576]) {
-    if let Counted::Refused(x) = write_sheet(STDOUT_FILENO, segment, DocId(id), text) {
-        print_refusal(x);
+fn print_sheet(
+    rt: &HostRuntime,
+    segment: &[u8],
+    id: u32,
+    text: &mut [u8; 1048576],
+) -> io::Result<()> {
+    match write_sheet(&mut rt.stdout(), segment, DocId(id), text)? {
+        Counted::Refused(x) => print_refusal(rt, x),
+        Counted::Count(_) => Ok(()),
     }
 }
 
 // The bar of an open file.
-fn print_file(fd: i32, id: u32, segment: &mut [u8], text: &mut [u8; 1048576]) {
-    let n = io::read_full(fd, segment);
+fn print_file(
+    rt: &HostRuntime,
+    file: &mut File,
+    id: u32,
+    segment: &mut [u8],
+    text: &mut [u8; 1048576],
+) -> io::Result<()> {
+    let n = read_full(file, segment)?;
     if 4194304 < n {
-        print_refusal(too_large());
-        return;
+        return print_refusal(rt, too_large());
     }
-    print_sheet(&segment[..n], id, text);
+    print_sheet(rt, &segment[..n], id, text)
 }
 
 // One place more than a file may have bytes here, so that a longer one is seen.
-fn print_in(fd: i32, id: u32, segment: &mut [u8; 4194305], text: &mut [u8; 1048576]) {
-    print_file(fd, id, segment, text);
+fn print_in(
+    rt: &HostRuntime,
+    file: &mut File,
+    id: u32,
+    segment: &mut [u8; 4194305],
+    text: &mut [u8; 1048576],
+) -> io::Result<()> {
+    print_file(rt, file, id, segment, text)
 }
 
-fn print_bar(name: &[u8], id: u32) {
-    let fd = os::open_read(name);
-    if fd < 0 {
-        os::fail(name);
-        return;
-    }
+fn print_open(rt: &HostRuntime, file: &mut File, id: u32) -> io::Result<()> {
     let mut segment = [0u8; 4194305];
     let mut text = [0u8; 1048576];
-    print_in(fd, id, &mut segment, &mut text);
-    libc::close(fd);
+    print_in(rt, file, id, &mut segment, &mut text)
+}
+
+fn print_bar(rt: &HostRuntime, name: &[u8], id: u32) -> io::Result<()> {
+    match open_named(rt, name) {
+        Ok(mut file) => print_open(rt, &mut file, id),
+        Err(error) => put_failure(&mut rt.stderr(), rt.alloc(), name, &error),
+    }
+}
+
+fn put_no_id(rt: &HostRuntime, word: &[u8]) -> io::Result<()> {
+    let mut errors = rt.stderr();
+    Write::write_all(&mut errors, word)?;
+    Write::write_all(&mut errors, b": not the id of a bar\n")
 }
 
 // A pair of arguments.
-fn print_pair(file: usize, bar: usize) {
-    let mut name = io::buffer();
-    let n = os::arg(file, &mut name);
-    let mut word = io::buffer();
-    let w = os::arg(bar, &mut word);
+fn print_pair(rt: &HostRuntime, file: usize, bar: usize) -> io::Result<()> {
+    let mut name = [0u8; 4096];
+    let n = argument(rt, file, &mut name);
+    let mut word = [0u8; 4096];
+    let w = argument(rt, bar, &mut word);
     match read_id(&word[..w]) {
-        BarId::Id(id) => {
-            print_bar(&name[..n], id);
-        }
-        BarId::NotOne => {
-            io::write_all(STDERR_FILENO, &word[..w]);
-            io::write_all(STDERR_FILENO, b": not the id of a bar\n");
-        }
+        BarId::Id(id) => print_bar(rt, &name[..n], id),
+        BarId::NotOne => put_no_id(rt, &word[..w]),
     }
 }
 
-fn main() {
-    let count = os::arg_count();
+fn main(rt: HostRuntime) -> io::Result<()> {
+    let count = argument_count(&rt);
     // The first word is the program's own name.
     if count < 3 || count % 2 == 0 {
-        io::write_all(STDERR_FILENO, b"usage: sheet FILE ID ..\n");
-        return;
+        return eprintln!(rt; "usage: sheet FILE ID ..");
     }
     let mut i: usize = 1;
     while i < count - 1 {
-        print_pair(i, i + 1);
+        print_pair(&rt, i, i + 1)?;
         i += 2;
     }
+    Ok(())
 }

@@ -1,4 +1,4 @@
-// Text written to a descriptor: the listing (print), a bar's sheet (paper). Crates show_listing and show_sheet make the texts; no contract
+// Text written out: the listing (print), a bar's sheet (paper). Crates show_listing and show_sheet make the texts; no contract
 // can speak of output.
 #![tactic(auto)]
 

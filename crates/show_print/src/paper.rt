@@ -1,17 +1,28 @@
 // A bar on paper, written out.
+ghost use Rattle.std.specs.Prelude.{ℕ, IfOk, OnErr};
+ghost use Rattle.segment.specs.declared.replies.Counted.TheVariants.{Count};
 ghost use Rattle.show_sheet.specs.Promise.{SheetAnswered};
 
 use segment::ids::DocId;
 use segment::replies::Counted;
 use show_sheet::sheet::bar_sheet;
+use std::io;
+use std::io::Write;
 
-// Draws a bar as `bar_sheet` does, and writes its sheet to a descriptor; after a refusal, nothing.
-pub fn write_sheet(fd: i32, bytes: &[u8], id: DocId, out: &mut [u8]) -> Counted
-    ensures { SheetAnswered bytes.now id.0 out.old result out.new }
+// Draws a bar as `bar_sheet` does, and writes its sheet out; after a refusal, nothing. An error is the writer's, and leaves the sheet in
+// the slice.
+pub fn write_sheet<W: Write>(
+    to: &mut W,
+    bytes: &[u8],
+    id: DocId,
+    out: &mut [u8],
+) -> io::Result<Counted>
+    ensures ok { IfOk result (λ r. SheetAnswered bytes.now id.0 out.old r out.new) }
+    ensures err { OnErr result ((k : ℕ) × SheetAnswered bytes.now id.0 out.old (Count k) out.new) }
 {
     let r = bar_sheet(bytes, id, out);
     if let Counted::Count(k) = r {
-        io::write_all(fd, &out[..k]);
+        to.write_all(&out[..k])?;
     }
-    r
+    Ok(r)
 }

@@ -1,27 +1,38 @@
 // The listing written out.
+ghost use Rattle.std.specs.Prelude.{ℕ, IfOk, OnErr};
+ghost use Rattle.segment.specs.declared.replies.Counted.TheVariants.{Count};
 ghost use Rattle.show_listing.specs.Promise.{ListedInto, ListedWhole};
 
 use segment::replies::Counted;
 use show_listing::list::listing;
+use std::io;
+use std::io::Write;
 
-// Lists a segment as `listing` does, and writes the text to a descriptor; where the lent slice is too short for the text, nothing.
-pub fn write_listing(fd: i32, bytes: &[u8], out: &mut [u8]) -> Counted
-    ensures { ListedInto bytes.now out.old result out.new }
+// Lists a segment as `listing` does, and writes the text out; where the lent slice is too short for the text, nothing. An error is the
+// writer's, and leaves the text in the slice.
+pub fn write_listing<W: Write>(to: &mut W, bytes: &[u8], out: &mut [u8]) -> io::Result<Counted>
+    ensures ok { IfOk result (λ r. ListedInto bytes.now out.old r out.new) }
+    ensures err { OnErr result ((k : ℕ) × ListedInto bytes.now out.old (Count k) out.new) }
 {
     let r = listing(bytes, out);
     if let Counted::Count(k) = r {
-        io::write_all(fd, &out[..k]);
+        to.write_all(&out[..k])?;
     }
-    r
+    Ok(r)
 }
 
-// Lists a segment, writes the text to a descriptor and returns the text's length. No listing is longer than the lent array, so this refuses
-// nothing.
-pub fn print_listing(fd: i32, bytes: &[u8], text: &mut [u8; 687393]) -> usize
-    ensures { ListedWhole bytes.now text.old result text.new }
+// Lists a segment, writes the text out and returns its length. No listing is longer than the lent array, so this refuses nothing. An error
+// is the writer's, and leaves the text in the array.
+pub fn print_listing<W: Write>(
+    to: &mut W,
+    bytes: &[u8],
+    text: &mut [u8; 687393],
+) -> io::Result<usize>
+    ensures ok { IfOk result (λ n. ListedWhole bytes.now text.old n text.new) }
+    ensures err { OnErr result ((n : ℕ) × ListedWhole bytes.now text.old n text.new) }
 {
-    match write_listing(fd, bytes, text) {
-        Counted::Count(k) => k,
-        Counted::Refused(_) => 0,
+    match write_listing(to, bytes, text)? {
+        Counted::Count(k) => Ok(k),
+        Counted::Refused(_) => Ok(0),
     }
 }
