@@ -11,8 +11,7 @@ use c_reply::reply::{Reply, of_counted};
 use rules::rule::Rule;
 
 // first: the number of documents in which the names have consecutive positions; their ids, rising.
-#[unsafe(no_mangle)]
-pub extern "C" fn pstp_phrase_match_strs(
+pub fn pstp_phrase_match_strs(
     bytes: &[u8],
     text: &[u8],
     ends: &[u32],
@@ -24,8 +23,7 @@ pub extern "C" fn pstp_phrase_match_strs(
 }
 
 // first: the number of documents in which two names are within a window, in any order; their ids, rising.
-#[unsafe(no_mangle)]
-pub extern "C" fn pstp_near_match(
+pub fn pstp_near_match(
     bytes: &[u8],
     a: &[u8],
     b: &[u8],
@@ -38,8 +36,7 @@ pub extern "C" fn pstp_near_match(
 }
 
 // first: the number of documents in which the names are within a window, in the order named or in any; their ids, rising.
-#[unsafe(no_mangle)]
-pub extern "C" fn pstp_near_match_terms_strs(
+pub fn pstp_near_match_terms_strs(
     bytes: &[u8],
     text: &[u8],
     ends: &[u32],
@@ -55,8 +52,7 @@ pub extern "C" fn pstp_near_match_terms_strs(
 
 // first: the number of documents in which the names have consecutive positions; their ids and beside each at how many starts, the best
 // first.
-#[unsafe(no_mangle)]
-pub extern "C" fn pstp_phrase_match_ranked(
+pub fn pstp_phrase_match_ranked(
     bytes: &[u8],
     text: &[u8],
     ends: &[u32],

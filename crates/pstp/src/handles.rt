@@ -19,8 +19,7 @@ use rules::rule::Rule;
 use segment::ids::DocId;
 
 // The handle of a segment that opens, at level 1; or the refusal.
-#[unsafe(no_mangle)]
-pub extern "C" fn pstp_open_once(bytes: &[u8]) -> Handle
+pub fn pstp_open_once(bytes: &[u8]) -> Handle
     ensures { result ≡ opened_once bytes.now }
 {
     open_once(bytes)
@@ -28,32 +27,28 @@ pub extern "C" fn pstp_open_once(bytes: &[u8]) -> Handle
 
 // The handle of a segment that opens and of which every list decodes, at level 2; or the first refusal: of opening, then of the lists in
 // the directory's order.
-#[unsafe(no_mangle)]
-pub extern "C" fn pstp_check(bytes: &[u8]) -> Handle
+pub fn pstp_check(bytes: &[u8]) -> Handle
     ensures { result ≡ checked_once bytes.now }
 {
     check(bytes)
 }
 
 // first: 1, and second: the document's length; 0 and 0 where it is unknown.
-#[unsafe(no_mangle)]
-pub extern "C" fn pstp_document_len_checked(bytes: &[u8], handle: Handle, id: u32) -> Reply
+pub fn pstp_document_len_checked(bytes: &[u8], handle: Handle, id: u32) -> Reply
     ensures { Replied length_reply (λ a. LengthChecked bytes.now handle id a) result }
 {
     of_length(document_len_checked(bytes, handle, DocId(id)))
 }
 
 // first: the number of documents that contain the term, as the directory has it; 0 for an unknown term.
-#[unsafe(no_mangle)]
-pub extern "C" fn pstp_df_checked(bytes: &[u8], handle: Handle, name: &[u8]) -> Reply
+pub fn pstp_df_checked(bytes: &[u8], handle: Handle, name: &[u8]) -> Reply
     ensures { Replied frequency_reply (λ a. DfChecked bytes.now handle name.now a) result }
 {
     of_doc_freq(df_checked(bytes, handle, name))
 }
 
 // first: how many documents; their ids, rising.
-#[unsafe(no_mangle)]
-pub extern "C" fn pstp_docs_with_term_checked(
+pub fn pstp_docs_with_term_checked(
     bytes: &[u8],
     handle: Handle,
     name: &[u8],
@@ -65,8 +60,7 @@ pub extern "C" fn pstp_docs_with_term_checked(
 }
 
 // first: postings; second: positions; ids, position counts and positions in three buffers.
-#[unsafe(no_mangle)]
-pub extern "C" fn pstp_term_postings_checked(
+pub fn pstp_term_postings_checked(
     bytes: &[u8],
     handle: Handle,
     name: &[u8],
@@ -81,8 +75,7 @@ pub extern "C" fn pstp_term_postings_checked(
 }
 
 // first: how many positions the term has in one document; the positions, rising.
-#[unsafe(no_mangle)]
-pub extern "C" fn pstp_positions_checked(
+pub fn pstp_positions_checked(
     bytes: &[u8],
     handle: Handle,
     name: &[u8],
@@ -95,8 +88,7 @@ pub extern "C" fn pstp_positions_checked(
 }
 
 // first: the number of documents in which the names have consecutive positions; their ids, rising.
-#[unsafe(no_mangle)]
-pub extern "C" fn pstp_phrase_match_strs_checked(
+pub fn pstp_phrase_match_strs_checked(
     bytes: &[u8],
     handle: Handle,
     text: &[u8],
@@ -110,8 +102,7 @@ pub extern "C" fn pstp_phrase_match_strs_checked(
 }
 
 // first: the number of documents in which two names are within a window, in any order; their ids, rising.
-#[unsafe(no_mangle)]
-pub extern "C" fn pstp_near_match_checked(
+pub fn pstp_near_match_checked(
     bytes: &[u8],
     handle: Handle,
     a: &[u8],
@@ -125,8 +116,7 @@ pub extern "C" fn pstp_near_match_checked(
 }
 
 // first: the number of documents in which the names are within a window, in the order named or in any; their ids, rising.
-#[unsafe(no_mangle)]
-pub extern "C" fn pstp_near_match_terms_strs_checked(
+pub fn pstp_near_match_terms_strs_checked(
     bytes: &[u8],
     handle: Handle,
     text: &[u8],

@@ -1,6 +1,6 @@
-// The C interface (include/pstp.h): one exported function for each call of document 01, one for the writer over records, and one for each
-// call of document 02, each a thin call of the function behind it, and one reply for all (crate c_reply). Two calls answer a handle, which
-// eight others take. Read in this order:
+// The functions of the C interface (include/pstp.h), which crate pstp_c exports: one for each call of document 01, one for the writer over
+// records, and one for each call of document 02, each a thin call of the function behind it, and one reply for all (crate c_reply). Two
+// calls answer a handle, which eight others take. Read in this order:
 //   read           open and the read calls
 //   ask            the searches
 //   handles        segments checked once, and the calls with a handle

@@ -9,8 +9,7 @@ use length_lookup::lookup::length_of;
 use segment::ids::DocId;
 
 // first: 1, and second: the length beside the id; 0 and 0 where the list lacks it.
-#[unsafe(no_mangle)]
-pub extern "C" fn pstp_length_of(ids: &[u32], lengths: &[u32], id: u32) -> Reply
+pub fn pstp_length_of(ids: &[u32], lengths: &[u32], id: u32) -> Reply
     ensures { result ≡ length_reply (length_answer (looked_up ids.now lengths.now id)) }
 {
     of_length(length_of(ids, lengths, DocId(id)))

@@ -9,8 +9,7 @@ use midi_import::import::midi_bars;
 
 // first: documents (bars); second: terms (sounds); third: postings; fourth: positions; the eight lists that the writer takes, and the
 // velocities beside the positions, at the fronts of the buffers.
-#[unsafe(no_mangle)]
-pub extern "C" fn pstp_midi_bars(
+pub fn pstp_midi_bars(
     file: &[u8],
     ids: &mut [u32],
     lengths: &mut [u32],

@@ -15,8 +15,7 @@ use pad_record::save::pad_save;
 use pad_write::write::pad_write;
 
 // first: how many hits the bar has; it is held under its id.
-#[unsafe(no_mangle)]
-pub extern "C" fn pstp_pad_save(
+pub fn pstp_pad_save(
     pad: &mut [u32],
     id: u32,
     length: u32,
@@ -31,16 +30,14 @@ pub extern "C" fn pstp_pad_save(
 }
 
 // first: how many hits the bar had; it is no longer held.
-#[unsafe(no_mangle)]
-pub extern "C" fn pstp_pad_erase(pad: &mut [u32], id: u32) -> Reply
+pub fn pstp_pad_erase(pad: &mut [u32], id: u32) -> Reply
     ensures { Replied counted_reply (λ a. BarErased pad.old id a pad.new) result }
 {
     of_counted(pad_erase(pad, id))
 }
 
 // first: how many hits the bar has; second: its length; sounds, steps and velocities in three buffers, in the order saved.
-#[unsafe(no_mangle)]
-pub extern "C" fn pstp_pad_read(
+pub fn pstp_pad_read(
     pad: &[u32],
     id: u32,
     sounds: &mut [u8],
@@ -54,16 +51,14 @@ pub extern "C" fn pstp_pad_read(
 }
 
 // first: how many hits the bars have together, as stored; never refused.
-#[unsafe(no_mangle)]
-pub extern "C" fn pstp_pad_hits(pad: &[u32]) -> Reply
+pub fn pstp_pad_hits(pad: &[u32]) -> Reply
     ensures { result ≡ hits_reply (pad_hits pad.now) }
 {
     of_hits(pad_hits(pad))
 }
 
 // first: how many bytes were written: the bars as a segment, at the slice's front.
-#[unsafe(no_mangle)]
-pub extern "C" fn pstp_pad_write(pad: &[u32], text: &[u8], ends: &[u32], out: &mut [u8]) -> Reply
+pub fn pstp_pad_write(pad: &[u32], text: &[u8], ends: &[u32], out: &mut [u8]) -> Reply
     ensures { Replied written_reply (λ a. PadWritten pad.now text.now ends.now out.old a out.new) result }
 {
     of_written(pad_write(pad, text, ends, out))

@@ -16,48 +16,42 @@ use read_terms::terms::{df, docs_with_term};
 use segment::ids::DocId;
 
 // first: documents; second: terms.
-#[unsafe(no_mangle)]
-pub extern "C" fn pstp_open(bytes: &[u8]) -> Reply
+pub fn pstp_open(bytes: &[u8]) -> Reply
     ensures { result ≡ opened_reply (opened (open_segment bytes.now)) }
 {
     of_opened(open(bytes))
 }
 
 // first: how many documents; their ids and lengths in two buffers.
-#[unsafe(no_mangle)]
-pub extern "C" fn pstp_document_lengths(bytes: &[u8], ids: &mut [u32], lengths: &mut [u32]) -> Reply
+pub fn pstp_document_lengths(bytes: &[u8], ids: &mut [u32], lengths: &mut [u32]) -> Reply
     ensures { Replied counted_reply (λ a. LengthsAnswered bytes.now ids.old lengths.old a ids.new lengths.new) result }
 {
     of_counted(document_lengths(bytes, ids, lengths))
 }
 
 // first: 1, and second: the document's length; 0 and 0 where it is unknown.
-#[unsafe(no_mangle)]
-pub extern "C" fn pstp_document_len(bytes: &[u8], id: u32) -> Reply
+pub fn pstp_document_len(bytes: &[u8], id: u32) -> Reply
     ensures { result ≡ length_reply (length_answer (document_len bytes.now id)) }
 {
     of_length(document_len(bytes, DocId(id)))
 }
 
 // first: the number of documents that contain the term, as the directory has it; 0 for an unknown term.
-#[unsafe(no_mangle)]
-pub extern "C" fn pstp_df(bytes: &[u8], name: &[u8]) -> Reply
+pub fn pstp_df(bytes: &[u8], name: &[u8]) -> Reply
     ensures { result ≡ frequency_reply (df_answer (df_of bytes.now name.now)) }
 {
     of_doc_freq(df(bytes, name))
 }
 
 // first: how many documents; their ids, rising.
-#[unsafe(no_mangle)]
-pub extern "C" fn pstp_docs_with_term(bytes: &[u8], name: &[u8], ids: &mut [u32]) -> Reply
+pub fn pstp_docs_with_term(bytes: &[u8], name: &[u8], ids: &mut [u32]) -> Reply
     ensures { Replied counted_reply (λ a. DocsAnswered bytes.now name.now ids.old a ids.new) result }
 {
     of_counted(docs_with_term(bytes, name, ids))
 }
 
 // first: postings; second: positions; ids, position counts and positions in three buffers.
-#[unsafe(no_mangle)]
-pub extern "C" fn pstp_term_postings(
+pub fn pstp_term_postings(
     bytes: &[u8],
     name: &[u8],
     ids: &mut [u32],
@@ -71,8 +65,7 @@ pub extern "C" fn pstp_term_postings(
 }
 
 // first: how many positions the term has in one document; the positions, rising.
-#[unsafe(no_mangle)]
-pub extern "C" fn pstp_positions(bytes: &[u8], name: &[u8], id: u32, places: &mut [u32]) -> Reply
+pub fn pstp_positions(bytes: &[u8], name: &[u8], id: u32, places: &mut [u32]) -> Reply
     ensures { Replied counted_reply (λ a. PositionsAnswered bytes.now name.now id places.old a places.new) result }
 {
     of_counted(positions(bytes, name, DocId(id), places))

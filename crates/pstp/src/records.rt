@@ -8,8 +8,7 @@ use write_records::write::write_positional_segment_records;
 
 // first: how many bytes were written. `ids` and `lengths` are lent for the time of the call, a place for each record; these and the
 // records are as before on every outcome.
-#[unsafe(no_mangle)]
-pub extern "C" fn pstp_write_positional_segment_records(
+pub fn pstp_write_positional_segment_records(
     documents: &mut [DocumentLength],
     ids: &mut [u32],
     lengths: &mut [u32],

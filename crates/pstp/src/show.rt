@@ -7,8 +7,7 @@ use segment::ids::DocId;
 use show_sheet::sheet::bar_sheet;
 
 // first: how many bytes the sheet has; they are at the front of the buffer.
-#[unsafe(no_mangle)]
-pub extern "C" fn pstp_bar_sheet(bytes: &[u8], id: u32, out: &mut [u8]) -> Reply
+pub fn pstp_bar_sheet(bytes: &[u8], id: u32, out: &mut [u8]) -> Reply
     ensures { Replied counted_reply (λ a. SheetAnswered bytes.now id out.old a out.new) result }
 {
     of_counted(bar_sheet(bytes, DocId(id), out))

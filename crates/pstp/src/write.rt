@@ -7,8 +7,7 @@ use c_reply::reply::{Reply, of_written};
 use write_segment::write::write_positional_segment;
 
 // first: how many bytes were written: documents and terms as a segment, at the slice's front.
-#[unsafe(no_mangle)]
-pub extern "C" fn pstp_write_positional_segment(
+pub fn pstp_write_positional_segment(
     ids: &[u32],
     lengths: &[u32],
     text: &[u8],
