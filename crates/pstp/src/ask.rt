@@ -11,25 +11,14 @@ use c_reply::reply::{Reply, of_counted};
 use rules::rule::Rule;
 
 // first: the number of documents in which the names have consecutive positions; their ids, rising.
-pub fn pstp_phrase_match_strs(
-    bytes: &[u8],
-    text: &[u8],
-    ends: &[u32],
-    ids: &mut [u32],
-) -> Reply
+pub fn pstp_phrase_match_strs(bytes: &[u8], text: &[u8], ends: &[u32], ids: &mut [u32]) -> Reply
     ensures { Replied counted_reply (λ a. TextAnswered bytes.now Rule.Phrase text.now ends.now ids.old a ids.new) result }
 {
     of_counted(phrase_match_strs(bytes, text, ends, ids))
 }
 
 // first: the number of documents in which two names are within a window, in any order; their ids, rising.
-pub fn pstp_near_match(
-    bytes: &[u8],
-    a: &[u8],
-    b: &[u8],
-    window: u32,
-    ids: &mut [u32],
-) -> Reply
+pub fn pstp_near_match(bytes: &[u8], a: &[u8], b: &[u8], window: u32, ids: &mut [u32]) -> Reply
     ensures { Replied counted_reply (λ c. TwoAnswered bytes.now window a.now b.now ids.old c ids.new) result }
 {
     of_counted(near_match(bytes, a, b, window, ids))
