@@ -19,7 +19,7 @@ fn list_file(rt: &HostRuntime, file: &mut File) -> io::Result<()> {
 fn list_named(rt: &HostRuntime, name: &[u8]) -> io::Result<()> {
     match open_named(rt, name) {
         Ok(mut file) => list_file(rt, &mut file),
-        Err(error) => put_failure(&mut rt.stderr(), rt.alloc(), name, &error),
+        Err(error) => put_failure(&mut rt.stderr(), name, &error),
     }
 }
 

@@ -3,7 +3,6 @@
 
 ghost use Rattle.std.specs.Prelude.{◌≤◌, IfOk, length};
 
-use std::alloc::Global;
 use std::env::FillError;
 use std::io::{Read, Write};
 use std::rt::{Env, Files};
@@ -54,24 +53,23 @@ pub fn argument<E: Env>(env: &E, i: usize, buf: &mut [u8]) -> usize
 }
 
 // The system's words, without the error's number that std puts behind them.
-fn reason(said: &str) -> &[u8] {
-    let bytes = said.as_bytes();
-    match said.find(" (os error ") {
-        Some(n) if n < bytes.len() => &bytes[..n],
-        _ => bytes,
+fn reason(said: &[u8]) -> &[u8] {
+    for n in 0..said.len() {
+        if said[n..].starts_with(b" (os error ") {
+            return &said[..n];
+        }
     }
+    said
 }
 
-// A line on what failed: its name, a colon and the system's words for why.
-pub fn put_failure<W: Write>(
-    to: &mut W,
-    alloc: Global,
-    what: &[u8],
-    error: &io::Error,
-) -> io::Result<()> {
-    let said = format!(in alloc; "{error}")?;
+// A line on what failed: its name, a colon and the system's words for why. Of words beyond 256 bytes only the front is written.
+pub fn put_failure<W: Write>(to: &mut W, what: &[u8], error: &io::Error) -> io::Result<()> {
+    let mut said = io::Cursor::new([0u8; 256]);
+    let _ = write!(&mut said, "{error}");
     to.write_all(what)?;
     to.write_all(b": ")?;
-    to.write_all(reason(said.as_str()))?;
+    let end = said.position().min(256) as usize;
+    let text = said.into_inner();
+    to.write_all(reason(&text[..end]))?;
     to.write_all(b"\n")
 }

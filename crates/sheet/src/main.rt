@@ -75,7 +75,7 @@ fn print_open(rt: &HostRuntime, file: &mut File, id: u32) -> io::Result<()> {
 fn print_bar(rt: &HostRuntime, name: &[u8], id: u32) -> io::Result<()> {
     match open_named(rt, name) {
         Ok(mut file) => print_open(rt, &mut file, id),
-        Err(error) => put_failure(&mut rt.stderr(), rt.alloc(), name, &error),
+        Err(error) => put_failure(&mut rt.stderr(), name, &error),
     }
 }
 

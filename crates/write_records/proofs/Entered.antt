@@ -123,7 +123,7 @@ module _ (ds : List DocumentLength) (xs ys text ends posting_counts posting_ids 
       (λ t. either (small handed_in) (λ s. rw (i, j, t, small_is, s, count_is, t)) (λ s. rw (i, j, t, small_is, s)))
 
   -- everything lent, as it is afterwards
-  wrote_records : {out out' : List ℕ} {r : Written} → WroteApart (length ds) standing out r out'
+  pub wrote_records : {out out' : List ℕ} {r : Written} → WroteApart (length ds) standing out r out'
       → WroteRecords handed_in ds xs ys out r ds xs ys out'
   wrote_records {out} w = record {
     reply = w.reply ∙ rw (apart_is (length out));

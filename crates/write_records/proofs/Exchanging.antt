@@ -5,7 +5,7 @@ use mathlib.Core.List.{List, [], ◌∷◌, map}
 use Prim.Native.Nat.{ℕ, zero, suc, ◌+◌, ◌≤◌}
 use native.Mathlib.Omega.{arith}
 use Rattle.std.proofs.Math.Numerals.{add-one}
-use lib.ListN.{length, get_or, set}
+use lib.ListN.{length, get_or, set, length-set}
 use Rattle.write_records.specs.declared.exchange.DocumentLength.{DocumentLength}
 use Rattle.write_records.specs.Steps.{Three, three, document, before, exchanged, Least}
 
@@ -24,6 +24,22 @@ swap_at i s =
 unfoldable pub after : ℕ → Three → Three
 after zero s = s
 after (suc i) s = swap_at i (after i s)
+
+module _ (s : Three) where
+  pub after_documents : (i : ℕ) → length (after i s).documents ≡ length s.documents
+  unfolding after
+  after_documents zero = refl
+  after_documents (suc i) = length-set (after i s).documents i _ ∙ after_documents i
+
+  pub after_ids : (i : ℕ) → length (after i s).ids ≡ length s.ids
+  unfolding after
+  after_ids zero = refl
+  after_ids (suc i) = length-set (after i s).ids i _ ∙ after_ids i
+
+  pub after_lengths : (i : ℕ) → length (after i s).lengths ≡ length s.lengths
+  unfolding after
+  after_lengths zero = refl
+  after_lengths (suc i) = length-set (after i s).lengths i _ ∙ after_lengths i
 
 -- one index more: what a turn of the walk leaves
 pub after_more : (i : ℕ) (s t : Three) → t ≡ after i s → swap_at i t ≡ after (i + 1) s
