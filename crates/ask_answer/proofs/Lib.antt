@@ -1,4 +1,5 @@
 -- Laws that belong to no one function, lowest first.
+pub mod Idle
 pub mod Known
 pub mod Walked
 pub mod Led

@@ -1,18 +1,15 @@
--- One cursor of the tables advanced to a target.
+-- One cursor of a table advanced to a target.
 -- Assumes nothing.
 use Prim.Native.Nat.{ℕ, ◌+◌, ◌-◌, ◌≤◌, ◌<◌}
 use mathlib.Core.Path.{◌≡◌, refl, sym, subst}
 use mathlib.Core.List.{List}
 use mathlib.Core.Bool.{Bool, true, false}
 use native.Mathlib.Omega.{arith}
-use lib.ListN.{set}
-use lib.Seq.{get_or-set_same, get_or-set_other}
 use lib.Dec.{eqb}
 use borrow.Author.Tests.{eqb-true, eqb-false}
 use Rattle.read_cursors.specs.declared.positions.Positions.{Positions}
-use Rattle.read_cursors.specs.Steps.{positions_from, SoughtPosition}
-use Rattle.ask_match.specs.Steps.{positions_in, Inside, Passed, Changed, SoughtIn, PassedIn, stands}
-use Rattle.ask_match.specs.declared.pass.Moved.{Moved}
+use Rattle.read_cursors.specs.Steps.{positions_from}
+use Rattle.ask_match.specs.Steps.{Changed, SoughtIn, stands}
 use Rattle.common.specs.Elements.{◌∈◌}
 use Rattle.ask_match.proofs.Members.{sought_in, sought_back, from_low, from_first, from_none}
 use Rattle.ask_match.proofs.Leap.{Same}
@@ -24,28 +21,6 @@ by_place Q i j here other = go (eqb j i) refl
     go : (t : Bool) → eqb j i ≡ t → Q j
     go true e = subst Q (sym (eqb-true j i e)) here
     go false e = other (eqb-false j i e)
-
--- each table set at the index
-pub changed_set : (at remaining pos : List ℕ) (i : ℕ) (c : Positions) → Inside i at remaining pos
-    → Changed i c (positions_in at remaining pos) (positions_in (set at i c.at) (set remaining i c.remaining) (set pos i c.pos.0))
-changed_set at remaining pos i c h = record {
-  here =
-      rw (
-        get_or-set_same at i c.at 0 h.offsets,
-        get_or-set_same remaining i c.remaining 0 h.counts,
-        get_or-set_same pos i c.pos.0 0 h.places,
-      );
-  other = λ j ne.
-      rw (get_or-set_other at i j c.at 0 ne, get_or-set_other remaining i j c.remaining 0 ne, get_or-set_other pos i j c.pos.0 0 ne);
-}
-
--- a cursor read from the tables, advanced, and stored again
-module _ {bytes : List ℕ} {target i : ℕ} {cs new : ℕ → Positions} {c : Positions} (read : c ≡ cs i) where
-  pub sought_at : {d : Positions} → SoughtPosition bytes target c d → Changed i d cs new → SoughtIn bytes target i cs new d
-  sought_at {d} so ch = record { sought = subst (λ (x : Positions). SoughtPosition bytes target x d) read so; stored = ch }
-
-  pub passed_at : {m : Moved} → Passed bytes target c m → Changed i m.to cs new → PassedIn bytes target i cs new m
-  passed_at {m} pa ch = record { passed = subst (λ (x : Positions). Passed bytes target x m) read pa; stored = ch }
 
 -- what holds of each element still does after one is changed, if it does of that one
 pub each_changed : {A : Type 0} (P : ℕ → A → Type 0) {i : ℕ} {c : A} {old new : ℕ → A} → Changed i c old new → P i c

@@ -1,13 +1,12 @@
 -- A window that slides over a name's positions: a cursor at its left edge, one past its right edge, and the number of positions between.
 -- Assumes nothing.
-use Prim.Native.Nat.{ℕ, ◌+◌, ◌-◌, ◌^◌, ◌≤◌, ◌<◌}
+use Prim.Native.Nat.{ℕ, ◌+◌, ◌-◌, ◌≤◌, ◌<◌}
 use mathlib.Core.Path.{◌≡◌, refl, sym, ap, ◌∙◌}
 use mathlib.Core.List.{List}
 use mathlib.Core.Logic.{⊎_elim}
 use native.Mathlib.Omega.{arith}
 use lib.ListN.{length, get_or, set}
 use lib.Seq.{get_or-set_same, get_or-set_other}
-use borrow.Author.Count.{below_more}
 use Rattle.common.proofs.Loops.{lt_or_ge}
 use Rattle.read_cursors.specs.declared.positions.Positions.{Positions}
 use Rattle.read_cursors.specs.Steps.{positions_from}
@@ -15,29 +14,11 @@ use Rattle.read_cursors.proofs.Seeks.{seek_stop, seek_end, seek_length, seek_twi
 use Rattle.read_cursors.proofs.Rising.{from_rise}
 use Rattle.ask_match.specs.declared.pass.Moved.{Moved}
 use Rattle.rules.specs.Words.{within}
-use Rattle.ask_match.specs.Steps.{positions_in, Changed, PassedIn, WindowsOpen, shows, Passed}
+use Rattle.ask_match.specs.Steps.{Changed, PassedIn, WindowsOpen, shows, Passed}
 use Rattle.ask_match.proofs.Members.{onward, ahead}
 use Rattle.ask_match.proofs.Leap.{Same}
-use Rattle.ask_match.proofs.Places.{by_place, changed_set, same_but}
+use Rattle.ask_match.proofs.Places.{by_place, same_but}
 use Rattle.ask_match.proofs.Counts.{within_count, within_onward}
-
--- the windows opened one after the other
-pub windows_none : {old new : ℕ → Positions} {seen : List ℕ} → WindowsOpen 0 old new seen
-windows_none = record { copied = λ j h. absurd (omega arith); none_seen = λ j h. absurd (omega arith) }
-
-pub windows_more : {k : ℕ} {old : ℕ → Positions} (at remaining pos : List ℕ) {seen : List ℕ}
-    → WindowsOpen k old (positions_in at remaining pos) seen
-    → k < length at → k < length remaining → k < length pos → k < length seen
-    → WindowsOpen (k + 1) old (positions_in (set at k (old k).at) (set remaining k (old k).remaining) (set pos k (old k).pos.0))
-    (set seen k 0)
-windows_more {k} {old} at remaining pos {seen} o ha hr hp hs =
-    let ch = changed_set at remaining pos k (old k) (record { offsets = ha; counts = hr; places = hp }) in record {
-      copied = below_more
-          (λ j. positions_in (set at k (old k).at) (set remaining k (old k).remaining) (set pos k (old k).pos.0) j ≡ old j) k
-          (λ j h. ch.other j (λ e. omega arith) ∙ o.copied j h) ch.here;
-      none_seen = below_more (λ j. get_or (set seen k 0) j 0 ≡ 0) k
-          (λ j h. get_or-set_other seen k j 0 0 (λ e. omega arith) ∙ o.none_seen j h) (get_or-set_same seen k 0 0 hs);
-    }
 
 -- a copy shows the same
 pub windows_show : {n : ℕ} {old new : ℕ → Positions} {seen : List ℕ} (b : List ℕ) (window : ℕ) (wanted : List ℕ)
@@ -80,7 +61,6 @@ counted b c s window edge e = within_count s window edge e _ (positions_from b c
 
 -- what the two passes of a turn tell of the window of one name, brought to start
 pub record Slid (b : List ℕ) (start window span : ℕ) (l r : Positions) (seen : ℕ) (left right : Moved) : Type 0 where
-  pub small : seen + right.passed < 2 ^ 32
   pub enough : left.passed ≤ seen + right.passed
   pub view : View b (start + span) left.to right.to (seen + right.passed - left.passed)
   pub count : within start window (positions_from b left.to) ≡ seen + right.passed - left.passed
@@ -141,7 +121,6 @@ module _ (b : List ℕ) (start window span : ℕ) {l r : Positions} {seen : ℕ}
 
   pub slide : Slid b start window span l r seen left right
   slide = record {
-    small = omega (arith, v.count, pr.count, pl.few);
     enough = fits;
     view = slid;
     count = slid_count;

@@ -7,15 +7,9 @@ use Rattle.read_cursors.specs.Steps.{positions_from, SoughtPosition}
 use Rattle.rules.specs.Words.{within}
 use Rattle.ask_match.specs.declared.pass.Moved.{Moved}
 
--- the cursors whose numbers three tables hold
-abbrev pub positions_in : (at remaining pos : List ℕ) → ℕ → Positions
-positions_in at remaining pos k = record { at = get_or at k 0; remaining = get_or remaining k 0; pos = record { 0 = get_or pos k 0 } }
-
--- three tables that have an element with index i
-pub record Inside (i : ℕ) (at remaining pos : List ℕ) : Type 0 where
-  pub offsets : i < length at
-  pub counts : i < length remaining
-  pub places : i < length pos
+-- the cursors of a table, by index; past its end there are none
+abbrev pub positions_in : (cursors : List Positions) → ℕ → Positions
+positions_in cursors k = get_or cursors k (record { at = 0; remaining = 0; pos = record { 0 = 0 } })
 
 -- the positions of the cursor with index j
 abbrev pub at_place : (bytes : List ℕ) (cs : ℕ → Positions) (j : ℕ) → List ℕ
@@ -27,7 +21,7 @@ pub record Passed (bytes : List ℕ) (target : ℕ) (c : Positions) (r : Moved) 
   pub count : r.passed + length (positions_from bytes r.to) ≡ length (positions_from bytes c)
   pub few : length (positions_from bytes c) < 2 ^ 32
 
--- ---- one cursor of the tables changed
+-- ---- one cursor of a table changed
 
 pub record Changed {A : Type 0} (i : ℕ) (c : A) (old new : ℕ → A) : Type 0 where
   pub here : new i ≡ c
@@ -41,14 +35,10 @@ pub record PassedIn (bytes : List ℕ) (target i : ℕ) (old new : ℕ → Posit
   pub passed : Passed bytes target (old i) r
   pub stored : Changed i r.to old new
 
--- seven tables that have at least n elements
-pub record WindowsFit (n : ℕ) (at remaining pos first_at first_remaining first_pos seen : List ℕ) : Type 0 where
-  pub right_offsets : n ≤ length at
-  pub right_counts : n ≤ length remaining
-  pub right_places : n ≤ length pos
-  pub left_offsets : n ≤ length first_at
-  pub left_counts : n ≤ length first_remaining
-  pub left_places : n ≤ length first_pos
+-- three tables that have at least n elements
+pub record WindowsFit (n : ℕ) (cursors first : List Positions) (seen : List ℕ) : Type 0 where
+  pub right : n ≤ length cursors
+  pub left : n ≤ length first
   pub in_seen : n ≤ length seen
 
 -- the first n cursors copied, and as many counts zero

@@ -1,6 +1,6 @@
 // The three rules in one document, over cursors at the positions of each name. Read in this order:
 //   pass       a cursor advanced to a target, with the number of positions passed
-//   tables     the cursors in lent tables of numbers
+//   tables     the cursors in a lent table
 //   phrase     name i has the position start + i
 //   starts     the starts of a phrase, counted
 //   ordered    a rising chain, one position of each name in turn

@@ -14,15 +14,15 @@ pub struct Moved {
 pub fn pass(bytes: &[u8], from: Positions, target: u64) -> Moved
     ensures { Passed bytes.now target from result }
 {
-    let mut c = from;
-    let mut n: u32 = 0;
-    while 0 < c.remaining {
-        let here = c.pos;
-        if target <= wide(here.0) {
-            return Moved { to: c, passed: n };
+    let mut to = from;
+    let mut passed = 0;
+    // The loop moves a cursor, as `Positions::seek` does.
+    while 0 < to.remaining {
+        if target <= wide(to.pos.0) {
+            return Moved { to, passed };
         }
-        c = c.advance(bytes);
-        n += 1;
+        to = to.advance(bytes);
+        passed += 1;
     }
-    Moved { to: c, passed: n }
+    Moved { to, passed }
 }

@@ -2,33 +2,28 @@
 ghost use Rattle.std.specs.Prelude.{◌≤◌, ◌<◌};
 ghost use Rattle.ask_match.specs.Steps.{positions_in, FoundSoOften, stands};
 
-use crate::tables::{cursor, seek_in};
+use crate::tables::seek_in;
 use common::widths::wide;
+use read_cursors::positions::Positions;
 
-// At how many starts, for each index i below n, start + i is a position of name i: from each that fits on to the next. The tables are
-// used up. There are no more starts than the first name has positions, so the count never wraps.
-pub fn starts_here(
-    bytes: &[u8],
-    n: usize,
-    at: &mut [usize; 128],
-    remaining: &mut [u32; 128],
-    pos: &mut [u32; 128],
-) -> u32
+// At how many starts, for each index i below n, start + i is a position of name i: from each that fits on to the next. The cursors
+// are used up. There are no more starts than the first name has positions, so the count never wraps.
+pub fn starts_here(bytes: &[u8], n: usize, cursors: &mut [Positions; 128]) -> u32
     requires { (0 < n) × (n ≤ 128) }
-    ensures { FoundSoOften n (stands bytes.now (positions_in at.old remaining.old pos.old)) result }
+    ensures { FoundSoOften n (stands bytes.now (positions_in cursors.old)) result }
 {
-    let first = cursor(at, remaining, pos, 0);
+    let first = cursors[0];
     let mut count: u32 = 0;
     let mut start: u64 = 0;
     let mut i: usize = 0;
+    // No index loop: a start that is counted, and a name that is past the start, send i back to 0.
     while count < first.remaining {
         let target = start + i as u64;
-        let d = seek_in(bytes, at, remaining, pos, i, target);
+        let d = seek_in(bytes, cursors, i, target);
         if d.remaining == 0 {
             return count;
         }
-        let here = d.pos;
-        let place = wide(here.0);
+        let place = wide(d.pos.0);
         if place == target {
             i += 1;
             if i == n {

@@ -4,77 +4,48 @@ ghost use Rattle.ask_match.specs.Steps.{positions_in, WindowsFit, WindowsOpen, F
 
 use crate::tables::pass_in;
 use common::widths::wide;
+use read_cursors::positions::Positions;
 
 // An empty window for each of n names: its left edge's cursor is a copy of its right edge's, and nothing is seen.
-fn open_windows(
-    n: usize,
-    at: &[usize],
-    remaining: &[u32],
-    pos: &[u32],
-    first_at: &mut [usize],
-    first_remaining: &mut [u32],
-    first_pos: &mut [u32],
-    seen: &mut [u32],
-)
-    requires { WindowsFit n at.now remaining.now pos.now first_at.old first_remaining.old first_pos.old seen.old }
-    ensures { WindowsOpen n (positions_in at.now remaining.now pos.now)
-        (positions_in first_at.new first_remaining.new first_pos.new) seen.new }
+fn open_windows(n: usize, cursors: &[Positions], first: &mut [Positions], seen: &mut [u32])
+    requires { WindowsFit n cursors.now first.old seen.old }
+    ensures { WindowsOpen n (positions_in cursors.now) (positions_in first.new) seen.new }
 {
-    let mut k: usize = 0;
-    while k < n {
-        first_at[k] = at[k];
-        first_remaining[k] = remaining[k];
-        first_pos[k] = pos[k];
-        seen[k] = 0;
-        k += 1;
-    }
+    first[..n].copy_from_slice(&cursors[..n]);
+    seen[..n].fill(0);
 }
 
-// Whether some window + 1 consecutive positions hold, of each of n different names, as many positions as it is named. `at`, `remaining`
-// and `pos` are used up; the four tables after them are room for the windows, and what they hold on entry does not matter.
+// Whether some window + 1 consecutive positions hold, of each of n different names, as many positions as it is named. The cursors are
+// used up; the two tables after them are room for the windows, and what they hold on entry does not matter.
 pub fn unordered_here(
     bytes: &[u8],
     n: usize,
     window: u32,
     wanted: &[u32; 128],
-    at: &mut [usize; 128],
-    remaining: &mut [u32; 128],
-    pos: &mut [u32; 128],
-    first_at: &mut [usize; 128],
-    first_remaining: &mut [u32; 128],
-    first_pos: &mut [u32; 128],
+    cursors: &mut [Positions; 128],
+    first: &mut [Positions; 128],
     seen: &mut [u32; 128],
 ) -> bool
     requires { n ≤ 128 }
-    ensures { Found n (shows bytes.now window wanted.now (positions_in at.old remaining.old pos.old)) result }
+    ensures { Found n (shows bytes.now window wanted.now (positions_in cursors.old)) result }
 {
-    open_windows(
-        n,
-        at,
-        remaining,
-        pos,
-        first_at,
-        first_remaining,
-        first_pos,
-        seen,
-    );
+    open_windows(n, cursors, first, seen);
     let span = wide(window) + 1;
     let mut start: u64 = 0;
     let mut i: usize = 0;
+    // No index loop: a name whose window holds too few sends i back to 0.
     while i < n {
-        let right = pass_in(bytes, at, remaining, pos, i, start + span);
-        let left = pass_in(bytes, first_at, first_remaining, first_pos, i, start);
+        let right = pass_in(bytes, cursors, i, start + span);
+        let left = pass_in(bytes, first, i, start);
         let have = seen[i] + right.passed - left.passed;
         seen[i] = have;
         if wanted[i] <= have {
             i += 1;
         } else {
-            let last = right.to;
-            if last.remaining == 0 {
+            if right.to.remaining == 0 {
                 return false;
             }
-            let here = last.pos;
-            start = wide(here.0) + 1 - span;
+            start = wide(right.to.pos.0) + 1 - span;
             i = 0;
         }
     }

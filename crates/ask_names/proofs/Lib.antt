@@ -3,7 +3,6 @@ pub mod ListTurns
 pub mod SlotTurns
 pub mod SlotsHold
 pub mod SlotsNamed
-pub mod TablesHold
 pub mod Resolving
 pub mod SlotsUsed
 pub mod Leads

@@ -1,10 +1,11 @@
 -- Names resolved in an open segment, one after the other: what find_term answers tells names apart.
 -- Assumes nothing.
+use Rattle.std.specs.Prelude.{None, Option, Some}
+use Rattle.read_terms.specs.declared.find.TermList.{TermList}
 use mathlib.Core.Path.{◌≡◌, refl, sym, ap, ◌∙◌}
-use mathlib.Core.Bool.{true, false}
+use mathlib.Core.Bool.{true}
 use mathlib.Core.List.{List, [], ◌∷◌, ◌++◌, append-nil, append_assoc}
 use mathlib.Core.Logic.{⊎_elim}
-use mathlib.Core.Option.{none, some}
 use Prim.Native.Nat.{ℕ, ◌≤◌, ◌<◌}
 use native.Mathlib.Omega.{arith}
 use lib.ListN.{length, length-append}
@@ -13,29 +14,25 @@ use Rattle.read_open.specs.declared.header.Layout.{Layout}
 use Rattle.segment.specs.Names.{precedes}
 use Rattle.read_open.specs.Steps.{Sorted, name_at}
 use Rattle.segment.proofs.Strings.{precedes_irreflexive}
-use Rattle.read_terms.specs.declared.find.TermFound.{TermFound}
 use Rattle.read_terms.specs.Steps.{TermIsFound}
 use Rattle.read_open.specs.Opened.{OpenedAs}
-use Rattle.ask_names.specs.declared.slots.Named.{Named}
-use Rattle.ask_names.specs.Steps.{Slots}
-use Rattle.ask_names.specs.Steps.{no_slots, with_found, resolved, none_left, SlotsRoom, NamesResolved}
-use Rattle.ask_names.specs.Tables.{Tables, Hold, Empty, Room, Taken, Resolved}
-use Rattle.ask_names.proofs.TablesHold.{hold_none, hold_room}
+use Rattle.ask_names.specs.declared.slots.Names.{Names}
+use Rattle.ask_names.specs.Steps.{no_slots, with_found, resolved, none_left, Room, NamesResolved}
 use Rattle.ask_names.proofs.SlotsHold.{resolved_room, resolved_more, founds_more, founds_length}
 use Rattle.ask_names.proofs.SlotsNamed.{ToldApart, Holding, holding_all}
 
 -- ---- one name after the other
 
 module _ {bytes : List ℕ} {at : Layout} where
-  pub names_none : {s : Slots} → s ≡ no_slots → NamesResolved bytes at [] s
+  pub names_none : {s : Names} → s ≡ no_slots → NamesResolved bytes at [] s
   unfolding resolved
   names_none e = record { founds = []; each = none_left; slots = e }
 
-  module _ {ns : List (List ℕ)} {s : Slots} (r : NamesResolved bytes at ns s) where
-    pub names_room : length ns < 128 → SlotsRoom s
+  module _ {ns : List (List ℕ)} {s : Names} (r : NamesResolved bytes at ns s) where
+    pub names_room : length ns < 128 → Room s
     names_room h = rw r.slots (resolved_room r.founds (omega (arith, founds_length r.each)))
 
-    pub names_more : (n : List ℕ) (f : TermFound) {t : Slots} → TermIsFound bytes at n f → t ≡ with_found s f
+    pub names_more : (n : List ℕ) (f : Option TermList) {t : Names} → TermIsFound bytes at n f → t ≡ with_found s f
         → NamesResolved bytes at (ns ++ (n ∷ [])) t
     names_more n f q e = record {
       founds = r.founds ++ (f ∷ []);
@@ -44,73 +41,29 @@ module _ {bytes : List ℕ} {at : Layout} where
     }
 
 -- the names taken so far are resolved, and so many are left of the whole
-pub record Partly (bytes : List ℕ) (at : Layout) (whole left : List (List ℕ)) (s : Slots) : Type 0 where
+pub record Partly (bytes : List ℕ) (at : Layout) (whole left : List (List ℕ)) (s : Names) : Type 0 where
   pub taken : List (List ℕ)
   pub resolved : NamesResolved bytes at taken s
   pub all : taken ++ left ≡ whole
 
 module _ {bytes : List ℕ} {at : Layout} {whole : List (List ℕ)} where
-  pub partly_none : {s : Slots} → s ≡ no_slots → Partly bytes at whole whole s
+  pub partly_none : {s : Names} → s ≡ no_slots → Partly bytes at whole whole s
   partly_none e = record { taken = []; resolved = names_none e; all = refl }
 
-  pub partly_room : {n : List ℕ} {left : List (List ℕ)} {s : Slots} → Partly bytes at whole (n ∷ left) s → length whole ≤ 128 → SlotsRoom s
+  pub partly_room : {n : List ℕ} {left : List (List ℕ)} {s : Names} → Partly bytes at whole (n ∷ left) s → length whole ≤ 128 → Room s
   partly_room {n} {left} p few =
       names_room p.resolved (omega (arith, ap length p.all, length-append p.taken (n ∷ left)))
 
-  pub partly_more : {n : List ℕ} {left : List (List ℕ)} {s t : Slots} → Partly bytes at whole (n ∷ left) s
-      → (f : TermFound) → TermIsFound bytes at n f → t ≡ with_found s f → Partly bytes at whole left t
+  pub partly_more : {n : List ℕ} {left : List (List ℕ)} {s t : Names} → Partly bytes at whole (n ∷ left) s
+      → (f : Option TermList) → TermIsFound bytes at n f → t ≡ with_found s f → Partly bytes at whole left t
   partly_more {n} {left} p f q e = record {
     taken = p.taken ++ (n ∷ []);
     resolved = names_more p.resolved n f q e;
     all = append_assoc p.taken (n ∷ []) left ∙ p.all;
   }
 
-  pub partly_all : {s : Slots} → Partly bytes at whole [] s → NamesResolved bytes at whole s
+  pub partly_all : {s : Names} → Partly bytes at whole [] s → NamesResolved bytes at whole s
   partly_all p = rw (← p.all, append-nil) p.resolved
-
--- the tables hold what the names taken so far resolve to
-pub record HeldPartly (bytes : List ℕ) (at : Layout) (whole left : List (List ℕ)) (n : Named) (t : Tables) : Type 0 where
-  pub slots : Slots
-  pub partly : Partly bytes at whole left slots
-  pub holds : Hold n t slots
-
-module _ {bytes : List ℕ} {at : Layout} {whole : List (List ℕ)} where
-  pub held_none : {t : Tables} → Empty t → HeldPartly bytes at whole whole (record { taken = 0; different = 0; absent = false }) t
-  held_none e = record { slots = no_slots; partly = partly_none refl; holds = hold_none e }
-
-  module _ {n : List ℕ} {left : List (List ℕ)} {k : Named} {t : Tables} (p : HeldPartly bytes at whole (n ∷ left) k t)
-      (few : length whole ≤ 128) where
-    pub held_room : Room k t.wanted
-    held_room = hold_room p.holds (partly_room p.partly few)
-
-    pub held_more : {k' : Named} {t' : Tables} (f : TermFound) → TermIsFound bytes at n f → Taken k t f k' t'
-        → HeldPartly bytes at whole left k' t'
-    held_more f q e = record {
-      slots = with_found p.slots f;
-      partly = partly_more p.partly f q refl;
-      holds = e p.slots (partly_room p.partly few) p.holds;
-    }
-
-  pub held_all : {k : Named} {t : Tables} → HeldPartly bytes at whole [] k t → Resolved bytes at whole k t
-  held_all p = record { slots = p.slots; resolved = partly_all p.partly; holds = p.holds }
-
--- ---- names that do not come in one text
-
-module _ {bytes : List ℕ} {at : Layout} where
-  pub resolved_none : {t : Tables} → Empty t → Resolved bytes at [] (record { taken = 0; different = 0; absent = false }) t
-  resolved_none e = record { slots = no_slots; resolved = names_none refl; holds = hold_none e }
-
-  module _ {ns : List (List ℕ)} {k : Named} {t : Tables} (r : Resolved bytes at ns k t) (few : length ns < 128) where
-    pub one_more_room : Room k t.wanted
-    one_more_room = hold_room r.holds (names_room r.resolved few)
-
-    pub resolved_one_more : {k' : Named} {t' : Tables} (n : List ℕ) (f : TermFound) → TermIsFound bytes at n f → Taken k t f k' t'
-        → Resolved bytes at (ns ++ (n ∷ [])) k' t'
-    resolved_one_more n f q e = record {
-      slots = with_found r.slots f;
-      resolved = names_more r.resolved n f q refl;
-      holds = e r.slots (names_room r.resolved few) r.holds;
-    }
 
 -- ---- names told apart
 
@@ -131,9 +84,9 @@ told (s, is) = record {
     λ e. one_place is.sorted l.entry k.entry r.3 q.3 (r.1 ∙ e ∙ sym q.1),
     λ e. sym r.1 ∙ ap (name_at _ _) e ∙ q.1,
   );
-  absent = λ a l r q. let z : some _ ≡ none = sym (r.2 s is) ∙ q s is in let e : ◌≡◌ {A = ℕ} 0 1 = cc in omega arith;
+  absent = λ a l r q. let z : Some _ ≡ None = sym (r.2 s is) ∙ q s is in let e : ◌≡◌ {A = ℕ} 0 1 = cc in omega arith;
 }
 
-pub names_held : {bytes : List ℕ} {at : Layout} → OpenedAs bytes at → {ns : List (List ℕ)} {s : Slots}
+pub names_held : {bytes : List ℕ} {at : Layout} → OpenedAs bytes at → {ns : List (List ℕ)} {s : Names}
     → NamesResolved bytes at ns s → length ns ≤ 128 → Holding (TermIsFound bytes at) ns s
 names_held is r few = rw r.slots (holding_all (told is) r.each few)

@@ -1,36 +1,32 @@
 -- What the slots of the names taken are good for: numbers of the names, each name's own list, and the lists decoded in turn.
 -- Assumes nothing.
+use Rattle.std.specs.Prelude.{None, Ok, Option, Some}
 use mathlib.Core.Path.{◌≡◌, refl, sym, ap, ◌∙◌}
 use mathlib.Core.Bool.{false}
-use mathlib.Core.List.{List, [], ◌∷◌}
-use Prim.Native.Nat.{ℕ, zero, suc, ◌+◌, ◌≤◌, ◌<◌}
+use mathlib.Core.List.{List, []}
+use Prim.Native.Nat.{ℕ, ◌≤◌, ◌<◌}
 use native.Mathlib.Omega.{arith}
-use lib.ListN.{length, get_or, take, drop}
-use lib.Seq.{drop-cons}
+use lib.ListN.{length, get_or, take}
 use Rattle.common.proofs.Loops.{true_false}
 use Rattle.read_terms.specs.declared.find.TermList.{TermList}
-use Rattle.read_terms.specs.declared.find.TermFound.{TermFound}
-use Rattle.read_terms.specs.declared.find.TermFound.TheVariants as found
 use Rattle.calls.specs.Lookups.{postings_of}
-use Rattle.segment.specs.Results.{Result, ok, ◌>>=◌}
-use Rattle.segment.specs.Records.{Posting, Segment}
-use Rattle.ask_names.specs.Steps.{Slots}
+use Rattle.segment.specs.Records.{Document, Segment}
+use Rattle.segment.specs.Postings.{decode}
+use Rattle.read_terms.specs.Steps.{list_entry}
+use Rattle.ask_names.specs.Steps.{InSlots, Numbered}
+use Rattle.ask_names.specs.declared.slots.Names.{Names}
+use Rattle.ask_names.specs.Lists.{decode_each}
 use Rattle.common.specs.Elements.{◌∈◌}
 use Rattle.rules.specs.Different.{different}
 use Rattle.calls.specs.Questions.{decode_names}
-use Rattle.ask_names.specs.Steps.{InSlots, Numbered, no_list, SlotsRoom}
 use Rattle.common.proofs.Membership.{at_place, place_of}
 use Rattle.calls.proofs.Decoding.{verdict, decodes_more}
-use Rattle.ask_names.proofs.SlotsHold.{sound_room}
 use Rattle.ask_names.proofs.SlotsNamed.{ToldApart, TermTotals, no_more, list_next, absent_next, Holding, list_at}
 
-pub holding_room : {R : List ℕ → TermFound → Type 0} {ns : List (List ℕ)} {s : Slots} → Holding R ns s → length ns < 128 → SlotsRoom s
-holding_room h few = sound_room h.sound (omega (arith, h.taken))
-
-module _ {R : List ℕ → TermFound → Type 0} (told : ToldApart R) (ns : List (List ℕ)) (s : Slots) (h : Holding R ns s) where
+module _ {R : List ℕ → Option TermList → Type 0} (told : ToldApart R) (ns : List (List ℕ)) (s : Names) (h : Holding R ns s) where
   -- the list under a name's number is one that was found for the name
-  pub own_list : (i : ℕ) → i < length ns → (l : TermList) → R (get_or ns i []) (found.List l)
-      → R (get_or ns i []) (found.List (list_at s (get_or s.slot i 0)))
+  pub own_list : (i : ℕ) → i < length ns → (l : TermList) → R (get_or ns i []) (Some l)
+      → R (get_or ns i []) (Some (list_at s (get_or s.slot i 0)))
   own_list i g l r =
       let (b, e) = h.numbered i g l r in
       let (m, a, q) = h.owned (get_or s.slot i 0) b in
@@ -39,17 +35,17 @@ module _ {R : List ℕ → TermFound → Type 0} (told : ToldApart R) (ns : List
   -- ---- where no name is absent
 
   module _ (all : s.absent ≡ false) where
-    pub each_found : (n : List ℕ) → n ∈ ns → (l : TermList) × R n (found.List l)
+    pub each_found : (n : List ℕ) → n ∈ ns → (l : TermList) × R n (Some l)
     each_found n a = let (f, r) = h.known n a in step f r
       where
-        step : (f : TermFound) → R n f → (l : TermList) × R n (found.List l)
-        step (found.List l) r = (l, r)
-        step found.Absent r = true_false (sym (h.absent.1 (n, a, r)) ∙ all)
+        step : (f : Option TermList) → R n f → (l : TermList) × R n (Some l)
+        step (Some l) r = (l, r)
+        step None r = true_false (sym (h.absent.1 (n, a, r)) ∙ all)
 
-    found_at : (i : ℕ) → i < s.taken → (l : TermList) × R (get_or ns i []) (found.List l)
+    found_at : (i : ℕ) → i < s.taken → (l : TermList) × R (get_or ns i []) (Some l)
     found_at i g = each_found (get_or ns i []) (at_place [] ns i (omega (arith, h.taken)))
 
-    pub slot_list : (i : ℕ) → i < s.taken → R (get_or ns i []) (found.List (list_at s (get_or s.slot i 0)))
+    pub slot_list : (i : ℕ) → i < s.taken → R (get_or ns i []) (Some (list_at s (get_or s.slot i 0)))
     slot_list i g = let (l, r) = found_at i g in own_list i (omega (arith, h.taken)) l r
 
     pub slot_below : (i : ℕ) → i < s.taken → get_or s.slot i 0 < s.different
@@ -78,35 +74,18 @@ module _ {R : List ℕ → TermFound → Type 0} (told : ToldApart R) (ns : List
       counted = λ i g. h.counted (get_or s.slot i 0) (slot_below i g) (get_or ns i []) _ (slot_list i g) refl;
     }
 
--- ---- the lists decoded in turn
+-- ---- the lists decoded, one after the other
 
--- each of the lists; or the first refusal
-unfoldable pub in_turn : (TermList → Result (List Posting)) → List TermList → Result (Unit {0})
-in_turn d [] = ok tt
-in_turn d (l ∷ ls) = d l >>= λ ps. in_turn d ls
-
--- the same by index: `from m k` decodes m of the lists, from list k on
-from_place : (d : TermList → Result (List Posting)) (ls : List TermList) (from : (m k : ℕ) → Result (Unit {0}))
-    → ((k : ℕ) → from 0 k ≡ ok tt) → ((m k : ℕ) → from (suc m) k ≡ (d (get_or ls k no_list) >>= λ ps. from m (suc k)))
-    → (m k : ℕ) → m + k ≤ length ls → from m k ≡ in_turn d (take m (drop k ls))
-unfolding in_turn
-from_place d ls from ends goes zero k h = ends k
-from_place d ls from ends goes (suc m) k h =
-    rw (drop-cons ls k no_list (omega arith), goes m k, from_place d ls from ends goes m (suc k) (omega arith))
-
-module _ {R : List ℕ → TermFound → Type 0} (seg : Segment) (d : TermList → Result (List Posting))
-    (has : (n : List ℕ) (l : TermList) → R n (found.List l) → postings_of seg n ≡ d l)
-    (lacks : (n : List ℕ) → R n found.Absent → postings_of seg n ≡ ok []) where
-  pub listed_decode : {ns : List (List ℕ)} {ls : List TermList} → TermTotals R ns ls → verdict (decode_names seg ns) ≡ in_turn d ls
-  unfolding decode_names in_turn
+module _ {R : List ℕ → Option TermList → Type 0} (seg : Segment) (documents : List Document) (bytes : List ℕ)
+    (has : (n : List ℕ) (l : TermList) → R n (Some l) → postings_of seg n ≡ decode documents (list_entry bytes l))
+    (lacks : (n : List ℕ) → R n None → postings_of seg n ≡ Ok []) where
+  listed_decode : {ns : List (List ℕ)} {ls : List TermList} → TermTotals R ns ls
+      → decode_each documents bytes ls ≡ verdict (decode_names seg ns)
+  unfolding decode_names decode_each
   listed_decode no_more = refl
-  listed_decode (list_next {n = n} {l = l} {ns = ns} r w) = decodes_more seg n ns ∙ rw (has n l r, listed_decode w)
-  listed_decode (absent_next {n = n} {ns = ns} r w) = decodes_more seg n ns ∙ rw (lacks n r) (listed_decode w)
+  listed_decode (list_next {n = n} {l = l} {ns = ns} r w) = sym (decodes_more seg n ns ∙ rw (has n l r, sym (listed_decode w)))
+  listed_decode (absent_next {n = n} {ns = ns} r w) = sym (decodes_more seg n ns ∙ rw (lacks n r) (sym (listed_decode w)))
 
-  pub lists_decode : {ns : List (List ℕ)} (s : Slots) → Holding R ns s → length ns ≤ 128
-      → (from : (m k : ℕ) → Result (Unit {0})) → ((k : ℕ) → from 0 k ≡ ok tt)
-      → ((m k : ℕ) → from (suc m) k ≡ (d (list_at s k) >>= λ ps. from m (suc k)))
-      → from s.different 0 ≡ verdict (decode_names seg (different ns))
-  lists_decode s h few from ends goes =
-      from_place d s.list from ends goes s.different 0 (omega (arith, h.taken, h.sound.few, h.sound.list_long))
-      ∙ sym (listed_decode h.listed)
+  pub lists_decode : {ns : List (List ℕ)} (s : Names) → Holding R ns s
+      → decode_each documents bytes (take s.different s.list) ≡ verdict (decode_names seg (different ns))
+  lists_decode s h = listed_decode h.listed

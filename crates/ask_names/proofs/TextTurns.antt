@@ -1,5 +1,6 @@
 -- The names of a text, one after the other: where each lies, and what testing them in turn comes to.
 -- Assumes nothing.
+use Rattle.std.specs.Prelude.{Err, Ok}
 use mathlib.Core.Path.{◌≡◌, refl}
 use mathlib.Core.Bool.{Bool, true, false, ◌&&◌, and-false}
 use mathlib.Core.List.{List, [], ◌∷◌}
@@ -13,7 +14,7 @@ use borrow.Author.Tests.{leb-true, eqb-true, le-leb, lt-leb}
 use Rattle.utf8.specs.Utf8.{utf8}
 use Rattle.common.proofs.Loops.{drop_step, drop_end, and_left, and_right}
 use Rattle.segment.specs.Refusals.{invalid_utf8, list_shape, too_large}
-use Rattle.segment.specs.Results.{Result, ok, refuse, ◌>>=◌}
+use Rattle.segment.specs.Results.{Answer, ◌>>=◌}
 use Rattle.segment.specs.Results as results
 use Rattle.segment.specs.Records.{between}
 use Rattle.segment.specs.Texts.{ends_fit, names}
@@ -51,12 +52,12 @@ module _ (text ends : List ℕ) (i from e : ℕ) (fit : ends_fit from (drop i en
       let to : from + (e - from) ≡ e = omega (arith, name_rises) in
       rw (drop_step ends i 0 h, ← is, drop-drop (e - from) from text, to)
 
-  module _ {whole : Result (Unit {0})} (inv : check_names (names from (drop i ends) (drop from text)) ≡ whole) where
+  module _ {whole : Answer (Unit {0})} (inv : check_names (names from (drop i ends) (drop from text)) ≡ whole) where
     pub texts_next : utf8 (between from e text) ≡ true → check_names (names e (drop (i + 1) ends) (drop e text)) ≡ whole
     unfolding check_names
     texts_next t = rw (turned, t) at inv
 
-    pub texts_stop : utf8 (between from e text) ≡ false → refuse invalid_utf8 ≡ whole
+    pub texts_stop : utf8 (between from e text) ≡ false → Err invalid_utf8 ≡ whole
     unfolding check_names
     texts_stop t = rw (turned, t) at inv
 
@@ -64,20 +65,20 @@ pub texts_none : (text ends : List ℕ) (i from : ℕ) → length ends ≤ i →
 unfolding names
 texts_none text ends i from h = rw (drop_end ends i h)
 
-pub texts_end : (text ends : List ℕ) (i from : ℕ) {whole : Result (Unit {0})}
-    → check_names (names from (drop i ends) (drop from text)) ≡ whole → length ends ≤ i → ok tt ≡ whole
+pub texts_end : (text ends : List ℕ) (i from : ℕ) {whole : Answer (Unit {0})}
+    → check_names (names from (drop i ends) (drop from text)) ≡ whole → length ends ≤ i → Ok tt ≡ whole
 unfolding check_names
 texts_end text ends i from inv h = rw (texts_none text ends i from h) at inv
 
 -- ---- the whole question
 
-pub question_large : (text ends : List ℕ) → (16777216 < length text) ⊎ (128 < length ends) → refuse too_large ≡ check_question text ends
+pub question_large : (text ends : List ℕ) → (16777216 < length text) ⊎ (128 < length ends) → Err too_large ≡ check_question text ends
 unfolding check_question
 question_large text ends (inl h) = rw (lt-leb (length text) 16777216 h)
 question_large text ends (inr h) = rw (lt-leb (length ends) 128 h, and-false (leb (length text) 16777216))
 
 module _ (text ends : List ℕ) (small : length text ≤ 16777216) (few : length ends ≤ 128) where
-  pub question_shape : ends_fit 0 ends (length text) ≡ false → refuse list_shape ≡ check_question text ends
+  pub question_shape : ends_fit 0 ends (length text) ≡ false → Err list_shape ≡ check_question text ends
   unfolding check_question
   question_shape e = rw (le-leb (length text) 16777216 small, le-leb (length ends) 128 few, e)
 
@@ -88,7 +89,7 @@ module _ (text ends : List ℕ) (small : length text ≤ 16777216) (few : length
 -- ---- two names
 
 module _ (a b : List ℕ) where
-  pub two_large : (16777216 < length a) ⊎ (16777216 < length b) → refuse too_large ≡ two_checks a b
+  pub two_large : (16777216 < length a) ⊎ (16777216 < length b) → Err too_large ≡ two_checks a b
   unfolding two_checks
   two_large (inl h) = rw (lt-leb (length a) 16777216 h)
   two_large (inr h) = rw (lt-leb (length b) 16777216 h, and-false (leb (length a) 16777216))
@@ -98,15 +99,15 @@ module _ (a b : List ℕ) where
     unfolding two_checks
     two_small = rw (le-leb (length a) 16777216 first, le-leb (length b) 16777216 second)
 
-    pub two_bytes : (utf8 a ≡ false) ⊎ (utf8 b ≡ false) → refuse invalid_utf8 ≡ two_checks a b
+    pub two_bytes : (utf8 a ≡ false) ⊎ (utf8 b ≡ false) → Err invalid_utf8 ≡ two_checks a b
     unfolding check_names
     two_bytes (inl e) = rw (← two_small, e)
     two_bytes (inr e) = rw (← two_small, e) (step (utf8 a))
       where
-        step : (t : Bool) → ◌≡◌ {A = Result (Unit {0})} (refuse invalid_utf8) (results.check t invalid_utf8 >>= λ _. refuse invalid_utf8)
+        step : (t : Bool) → ◌≡◌ {A = Answer (Unit {0})} (Err invalid_utf8) (results.check t invalid_utf8 >>= λ _. Err invalid_utf8)
         step true = refl
         step false = refl
 
-    pub two_fine : utf8 a ≡ true → utf8 b ≡ true → ok tt ≡ two_checks a b
+    pub two_fine : utf8 a ≡ true → utf8 b ≡ true → Ok tt ≡ two_checks a b
     unfolding check_names
     two_fine e f = rw (← two_small, e, f)

@@ -1,3 +1,3 @@
 -- What only proofs need:
 pub mod Steps
-pub mod Tables
+pub mod Lists

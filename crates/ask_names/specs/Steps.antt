@@ -1,54 +1,40 @@
--- The names resolved: what the slots hold after each name.
-use Rattle.std.specs.Prelude.{ℕ, zero, suc, ◌+◌, ◌≤◌, ◌<◌, ◌≡◌, Bool, true, false, cond, List, [], ◌∷◌, eqb, length, get_or, set, replicate, ◌↔◌}
+-- The names resolved: what they are held as after each name.
+use Rattle.std.specs.Prelude.{None, Option, Some, ℕ, zero, suc, ◌+◌, ◌≤◌, ◌<◌, ◌≡◌, Bool, true, false, cond, eqb, ◌↔◌}
+use Rattle.std.specs.Prelude.{List, [], ◌∷◌, length, get_or, set, replicate}
 use Rattle.read_terms.specs.declared.find.TermList.{TermList}
-use Rattle.read_terms.specs.declared.find.TermFound.{TermFound}
-use Rattle.read_terms.specs.declared.find.TermFound.TheVariants as found
+use Rattle.ask_names.specs.declared.slots.Names.{Names}
 use Rattle.rules.specs.Words.{mentions}
 use Rattle.read_open.specs.declared.header.Layout.{Layout}
-use Rattle.segment.specs.Results.{◌>>=◌}
 use Rattle.read_terms.specs.Steps.{TermIsFound}
-
--- The names of a question by the terms that they name: `taken` names were taken, they name `different` terms. The name with index i names
--- term slot[i]; term k's entry is entry[k], its list is list[k], and it is named wanted[k] times. `absent`: some name has no term.
-pub record Slots : Type 0 where
-  pub taken : ℕ
-  pub different : ℕ
-  pub absent : Bool
-  pub slot : List ℕ
-  pub entry : List ℕ
-  pub list : List TermList
-  pub wanted : List ℕ
 
 abbrev pub no_list : TermList
 no_list = record { entry = 0; start = 0; end = 0; df = 0; checksum = 0 }
 
-abbrev pub no_slots : Slots
+abbrev pub no_slots : Names
 no_slots = record {
   taken = 0;
   different = 0;
   absent = false;
   slot = replicate 128 0;
-  entry = replicate 128 0;
   list = replicate 128 no_list;
   wanted = replicate 128 0;
 }
 
--- the least index from k on, of n, at which xs holds x; or the index after these
-unfoldable pub slot_from : (n k : ℕ) (xs : List ℕ) (x : ℕ) → ℕ
+-- the least index from k on, of n, at which xs has a list with the entry x; or the index after these
+unfoldable pub slot_from : (n k : ℕ) (xs : List TermList) (x : ℕ) → ℕ
 slot_from zero k xs x = k
-slot_from (suc n) k xs x = let later = slot_from n (suc k) xs x in cond (eqb (get_or xs k 0) x) k later
+slot_from (suc n) k xs x = let later = slot_from n (suc k) xs x in cond (eqb (get_or xs k no_list).entry x) k later
 
-abbrev pub slot_for : (different : ℕ) (entries : List ℕ) (entry : ℕ) → ℕ
-slot_for different entries entry = slot_from different 0 entries entry
+abbrev pub slot_for : (different : ℕ) (lists : List TermList) (entry : ℕ) → ℕ
+slot_for different lists entry = slot_from different 0 lists entry
 
 -- a term that was named before is counted; a new one gets the next number
-abbrev pub counted_in : (new : Bool) (s : Slots) (k : ℕ) (l : TermList) → Slots
+abbrev pub counted_in : (new : Bool) (s : Names) (k : ℕ) (l : TermList) → Names
 counted_in true s k l = record {
   taken = s.taken + 1;
   different = s.different + 1;
   absent = s.absent;
   slot = set s.slot s.taken k;
-  entry = set s.entry k l.entry;
   list = set s.list k l;
   wanted = set s.wanted k (get_or s.wanted k 0 + 1);
 }
@@ -57,44 +43,39 @@ counted_in false s k l = record {
   different = s.different;
   absent = s.absent;
   slot = set s.slot s.taken k;
-  entry = s.entry;
   list = s.list;
   wanted = set s.wanted k (get_or s.wanted k 0 + 1);
 }
 
-abbrev pub with_found : Slots → TermFound → Slots
-with_found s (found.List l) =
-    let k = slot_for s.different s.entry l.entry in
+abbrev pub with_found : Names → Option TermList → Names
+with_found s (Some l) =
+    let k = slot_for s.different s.list l.entry in
     counted_in (eqb k s.different) s k l
-with_found s found.Absent = record {
+with_found s None = record {
   taken = s.taken + 1;
   different = s.different;
   absent = true;
   slot = s.slot;
-  entry = s.entry;
   list = s.list;
   wanted = s.wanted;
 }
 
 -- all names of a question, one after the other
-unfoldable pub resolved : Slots → List TermFound → Slots
+unfoldable pub resolved : Names → List (Option TermList) → Names
 resolved s [] = s
 resolved s (f ∷ fs) = resolved (with_found s f) fs
 
 -- each name with what was found for it; `R n f` says that f is what was found for the name n
-pub data Founds (R : List ℕ → TermFound → Type 0) : List (List ℕ) → List TermFound → Type 0 where
+pub data Founds (R : List ℕ → Option TermList → Type 0) : List (List ℕ) → List (Option TermList) → Type 0 where
   none_left : Founds R [] []
-  one_more : {n : List ℕ} {f : TermFound} {ns : List (List ℕ)} {fs : List TermFound} → R n f → Founds R ns fs → Founds R (n ∷ ns) (f ∷ fs)
+  one_more : {n : List ℕ} {f : Option TermList} {ns : List (List ℕ)} {fs : List (Option TermList)} → R n f → Founds R ns fs
+      → Founds R (n ∷ ns) (f ∷ fs)
 
 -- there is room for one name more
-pub record SlotsRoom (s : Slots) : Type 0 where
+pub record Room (s : Names) : Type 0 where
   pub place : s.taken < 128
   pub few : s.different ≤ s.taken
   pub counts : (k : ℕ) → get_or s.wanted k 0 ≤ s.taken
-  pub slot_long : length s.slot ≡ 128
-  pub entry_long : length s.entry ≡ 128
-  pub list_long : length s.list ≡ 128
-  pub wanted_long : length s.wanted ≡ 128
 
 -- The names by the numbers of their terms.
 
@@ -115,8 +96,8 @@ pub record Numbered (n : ℕ) (slot : List ℕ) (m : ℕ) (wanted : List ℕ) (n
 
 -- The names resolved in an open segment, and their lists decoded.
 
--- the slots are what the names resolve to, one after the other
-pub record NamesResolved (bytes : List ℕ) (at : Layout) (ns : List (List ℕ)) (s : Slots) : Type 0 where
-  pub founds : List TermFound
+-- s is what the names resolve to, one after the other
+pub record NamesResolved (bytes : List ℕ) (at : Layout) (ns : List (List ℕ)) (s : Names) : Type 0 where
+  pub founds : List (Option TermList)
   pub each : Founds (TermIsFound bytes at) ns founds
   pub slots : s ≡ resolved no_slots founds

@@ -1,5 +1,7 @@
 -- The call: the checks of a question, the opening, the ranked search behind them.
 -- Assumes nothing.
+use Rattle.std.specs.Prelude.{Err, Ok}
+use Rattle.segment.specs.Results.{Answer}
 use mathlib.Core.Path.{◌≡◌, refl}
 use mathlib.Core.Bool.{true}
 use mathlib.Core.List.{List}
@@ -7,11 +9,7 @@ use Prim.Native.Nat.{ℕ}
 use native.Mathlib.Omega.{arith}
 use lib.ListN.{length}
 use borrow.Author.Tests.{le-leb}
-use Rattle.segment.specs.declared.checked.Checked.TheVariants as check
 use Rattle.segment.specs.declared.refusal.Refusal.{Refusal}
-use Rattle.segment.specs.declared.replies.Counted.{Counted}
-use Rattle.segment.specs.declared.replies.Counted.TheVariants as reply
-use Rattle.segment.specs.Results.{ok, refuse}
 use Rattle.segment.specs.Records.{Segment}
 use Rattle.segment.specs.Texts.{names}
 use Rattle.segment.specs.Opening.{open_segment}
@@ -26,25 +24,25 @@ use Rattle.ask_ranked.specs.Promise.{RankedAnswered}
 use Rattle.ask_ranked.specs.Steps.{ranked_in, BothFilled}
 
 module _ (bytes text ends ids counts : List ℕ) where
-  answered : {r : Counted} {ids' counts' : List ℕ}
+  answered : {r : (Answer ℕ)} {ids' counts' : List ℕ}
       → BothFilled (search_ranked bytes text ends (length ids) (length counts)) ids counts r ids' counts'
       → RankedAnswered bytes text ends ids counts r ids' counts'
   answered p = record { reply = p.0; ids_left = p.1; counts_left = p.2 }
 
-  pub call_refused : {x : Refusal} → check.Refused x ≡ checked (check_question text ends)
-      → RankedAnswered bytes text ends ids counts (reply.Refused x) ids counts
+  pub call_refused : {x : Refusal} → Err x ≡ checked (check_question text ends)
+      → RankedAnswered bytes text ends ids counts (Err x) ids counts
   unfolding search_ranked
   call_refused e = answered (rw (refused_is (check_question text ends) e) (refl, refl, refl))
 
-  module _ (passed : check.Passed ≡ checked (check_question text ends)) where
-    pub call_closed : {x : Refusal} → open_segment bytes ≡ refuse x
-        → RankedAnswered bytes text ends ids counts (reply.Refused x) ids counts
+  module _ (passed : (Ok tt) ≡ checked (check_question text ends)) where
+    pub call_closed : {x : Refusal} → open_segment bytes ≡ Err x
+        → RankedAnswered bytes text ends ids counts (Err x) ids counts
     unfolding search_ranked
     call_closed e = answered (rw ((passed_ok (check_question text ends) passed).1, e) (refl, refl, refl))
 
-    module _ {s : Segment} (opens : open_segment bytes ≡ ok s) where
+    module _ {s : Segment} (opens : open_segment bytes ≡ Ok s) where
       pub call_idle : idle Phrase (length (names 0 ends text)) ≡ true
-          → RankedAnswered bytes text ends ids counts (reply.Count 0) ids counts
+          → RankedAnswered bytes text ends ids counts (Ok 0) ids counts
       unfolding search_ranked
       call_idle t =
           answered
@@ -57,7 +55,7 @@ module _ (bytes text ends ids counts : List ℕ) where
           )
           (refl, refl, refl))
 
-      pub call_answered : {r : Counted} {ids' counts' : List ℕ}
+      pub call_answered : {r : (Answer ℕ)} {ids' counts' : List ℕ}
           → BothFilled (ranked_in s (names 0 ends text) (length ids) (length counts)) ids counts r ids' counts'
           → RankedAnswered bytes text ends ids counts r ids' counts'
       unfolding search_ranked

@@ -1,5 +1,7 @@
 -- The documents found and their counts, stored at the front of both buffers and ranked there.
 -- Assumes nothing.
+use Rattle.std.specs.Prelude.{Err, Ok}
+use Rattle.segment.specs.Results.{Answer}
 use mathlib.Core.Path.{◌≡◌, refl, sym, ap, ◌∙◌}
 use mathlib.Core.List.{List, ◌++◌, map}
 use Prim.Native.Nat.{ℕ, ◌≤◌, ◌<◌}
@@ -8,13 +10,7 @@ use lib.ListN.{length, length-map, take, drop}
 use lib.Seq.{sets, take-append_seam, drop-append_seam}
 use Rattle.common.proofs.Pairs.{paired_picture}
 use Rattle.common.proofs.Sets.{sets_front}
-use Rattle.segment.specs.declared.checked.Checked.{Checked}
-use Rattle.segment.specs.declared.checked.Checked.TheVariants as check
 use Rattle.segment.specs.declared.refusal.Refusal.{Refusal}
-use Rattle.segment.specs.declared.replies.Counted.{Counted}
-use Rattle.segment.specs.declared.replies.Counted.TheVariants as reply
-use Rattle.segment.specs.Results.{ok}
-use Rattle.segment.specs.Records.{Posting}
 use Rattle.segment.specs.Steps.{checked}
 use Rattle.rules.specs.declared.rule.Rule.TheVariants.{Phrase}
 use Rattle.rules.specs.Rules.{starts_count}
@@ -24,9 +20,11 @@ use Rattle.calls.specs.Replies.{fronted}
 use Rattle.calls.proofs.Ranks.{ranked_length}
 use Rattle.read_cursors.specs.Held.{posting_of}
 use Rattle.rank.specs.Steps.{matches, RankedIn}
-use Rattle.ask_names.specs.Tables.{Led}
-use Rattle.ask_walk.specs.Steps.{cursors_in, FoundCounted, DocumentsCounted}
-use Rattle.ask_answer.specs.Steps.{Heads, held_list, Fitting, found_in}
+use Rattle.read_cursors.specs.declared.postings.Postings.{Postings}
+use Rattle.ask_names.specs.declared.slots.Names.{Names}
+use Rattle.ask_names.specs.Lists.{Led}
+use Rattle.ask_walk.specs.Steps.{FoundCounted, DocumentsCounted}
+use Rattle.ask_answer.specs.Steps.{Heads, Fitting, found_in}
 use Rattle.ask_answer.proofs.Walked.{heads_fit}
 use Rattle.ask_answer.proofs.Led.{first_led, fitting_led}
 use Rattle.ask_ranked.specs.Steps.{room_for, BothFilled, FitsSome, ListsCounted, RoomChecked, ListsRanked}
@@ -34,13 +32,12 @@ use Rattle.ask_ranked.proofs.Room.{roomed_refused, roomed_passed, both_room}
 
 -- ---- the walk from the lists' first postings
 
-pub lists_counted : (bytes : List ℕ) (n : ℕ) (slot : List ℕ) (m : ℕ) (start df at count remaining doc : List ℕ) {ids counts : List ℕ}
-    {r : ℕ} {ids' counts' : List ℕ} → 0 < m → Heads bytes m start df at count remaining doc
-    → DocumentsCounted bytes n slot m (cursors_in at count remaining doc) ids counts r ids' counts'
-    → ListsCounted (held_list bytes start df) n slot m ids counts r ids' counts'
-lists_counted bytes n slot m start df at count remaining doc first h w wanted own ns f =
-    rw (ap (map posting_of) (h.each 0 first)) at
-    (w wanted own ns f.numbered (heads_fit bytes n slot m start df at count remaining doc h wanted own ns f))
+pub lists_counted : (bytes : List ℕ) (s : Names) {cursors : ℕ → Postings} {ids counts : List ℕ} {r : ℕ} {ids' counts' : List ℕ}
+    → 0 < s.different → Heads bytes s.different s.list cursors
+    → DocumentsCounted bytes s.taken s.slot s.different cursors ids counts r ids' counts'
+    → ListsCounted bytes s ids counts r ids' counts'
+lists_counted bytes s first h w own ns f =
+    rw (ap (map posting_of) (h.each 0 first)) at (w s.wanted own ns f.numbered (heads_fit h f))
 
 -- ---- what was stored, ranked
 
@@ -76,65 +73,61 @@ module _ (own : ℕ → List ℕ → List ℕ) (ns : List (List ℕ)) (found : L
     side_by_side : matches (take n ids₁) (take n counts₁) ≡ with_counts own ns found
     side_by_side = rw (stored_ids.0, stored_counts.0) (paired_picture match_of (λ d. starts_count (own d) ns) found)
 
-    pub stored_ranked : BothFilled (ok best) ids counts (reply.Count n) ids₂ counts₂
+    pub stored_ranked : BothFilled (Ok best) ids counts (Ok n) ids₂ counts₂
     stored_ranked =
         let many = best_many ∙ sym w.in_ids.count in (
-          ap reply.Count (sym many),
+          ap Ok (sym many),
           s.ids_left ∙ rw (side_by_side, stored_ids.1) (ranked_front (λ m. m.doc) best ids many),
           s.counts_left ∙ rw (side_by_side, stored_counts.1) (ranked_front (λ m. m.count) best counts many),
         )
 
 -- ---- the lists ranked
 
-module _ (list : ℕ → List Posting) (n : ℕ) (slot : List ℕ) (m : ℕ) (wanted ids counts : List ℕ) where
+module _ (bytes : List ℕ) (s : Names) (ids counts : List ℕ) where
   -- the test by the number of matches
-  by_matches : {r : Checked} → RoomChecked list n slot m wanted (length ids) (length counts) r
-      → (own : ℕ → List ℕ → List ℕ) (ns : List (List ℕ)) → Fitting list n slot m wanted own ns
-      → r ≡ checked (room_for (length (best own ns (found_in list 0 Phrase own ns))) (length ids) (length counts))
-  by_matches room own ns f = rw (best_many own ns (found_in list 0 Phrase own ns)) (room own ns f)
+  by_matches : {r : (Answer (Unit {0}))} → RoomChecked bytes s (length ids) (length counts) r
+      → (own : ℕ → List ℕ → List ℕ) (ns : List (List ℕ)) → Fitting bytes s own ns
+      → r ≡ checked (room_for (length (best own ns (found_in bytes s 0 Phrase own ns))) (length ids) (length counts))
+  by_matches room own ns f = rw (best_many own ns (found_in bytes s 0 Phrase own ns)) (room own ns f)
 
-  pub lists_short : {x : Refusal} → RoomChecked list n slot m wanted (length ids) (length counts) (check.Refused x)
-      → ListsRanked 0 list n slot m wanted ids counts (reply.Refused x) ids counts
+  pub lists_short : {x : Refusal} → RoomChecked bytes s (length ids) (length counts) (Err x)
+      → ListsRanked 0 bytes s ids counts (Err x) ids counts
   lists_short room = record {
     replies = λ own ns f.
-        rw (roomed_refused (best own ns (found_in list 0 Phrase own ns)) (length ids) (length counts) (by_matches room own ns f))
+        rw (roomed_refused (best own ns (found_in bytes s 0 Phrase own ns)) (length ids) (length counts) (by_matches room own ns f))
         (refl, refl, refl);
   }
 
-  module _ (room : RoomChecked list n slot m wanted (length ids) (length counts) check.Passed) {found : ℕ} {ids₁ counts₁ : List ℕ}
-      (w : ListsCounted list n slot m ids counts found ids₁ counts₁) where
-    found_room : (own : ℕ → List ℕ → List ℕ) (ns : List (List ℕ)) → Fitting list n slot m wanted own ns
+  module _ (room : RoomChecked bytes s (length ids) (length counts) (Ok tt)) {found : ℕ} {ids₁ counts₁ : List ℕ}
+      (w : ListsCounted bytes s ids counts found ids₁ counts₁) where
+    found_room : (own : ℕ → List ℕ → List ℕ) (ns : List (List ℕ)) → Fitting bytes s own ns
         → (found ≤ length ids) × (found ≤ length counts)
     found_room own ns f =
-        let all = found_in list 0 Phrase own ns in
+        let all = found_in bytes s 0 Phrase own ns in
         let has = both_room (best own ns all) (length ids) (length counts) (by_matches room own ns f) in
-        let is = (w wanted own ns f).in_ids.count in
+        let is = (w own ns f).in_ids.count in
         (omega (arith, is, best_many own ns all, has.0), omega (arith, is, best_many own ns all, has.1))
 
-    pub some_room : FitsSome list n slot m wanted → (found ≤ length ids) × (found ≤ length counts)
-    some_room s = found_room s.own s.names s.fitting
+    pub some_room : FitsSome bytes s → (found ≤ length ids) × (found ≤ length counts)
+    some_room x = found_room x.own x.names x.fitting
 
     pub lists_ranked : {ids₂ counts₂ : List ℕ} → RankedIn found ids₁ counts₁ ids₂ counts₂
-        → ListsRanked 0 list n slot m wanted ids counts (reply.Count found) ids₂ counts₂
-    lists_ranked s = record {
+        → ListsRanked 0 bytes s ids counts (Ok found) ids₂ counts₂
+    lists_ranked r = record {
       replies = λ own ns f.
-          let all = found_in list 0 Phrase own ns in
+          let all = found_in bytes s 0 Phrase own ns in
           rw (roomed_passed (best own ns all) (length ids) (length counts) (by_matches room own ns f))
-          (stored_ranked own ns all ids counts (w wanted own ns f) (found_room own ns f).0 (found_room own ns f).1 s);
+          (stored_ranked own ns all ids counts (w own ns f) (found_room own ns f).0 (found_room own ns f).1 r);
     }
 
 -- ---- the rarest list leads
 
-module _ (bytes : List ℕ) {n m : ℕ} {slot start df wanted slot' start' df' wanted' : List ℕ}
-    (led : Led n m slot start df wanted slot' start' df' wanted') where
-  pub some_led : (own : ℕ → List ℕ → List ℕ) (ns : List (List ℕ)) → Fitting (held_list bytes start df) n slot m wanted own ns
-      → FitsSome (held_list bytes start' df') n slot' m wanted'
-  some_led own ns f = record { own = own; names = ns; fitting = fitting_led bytes led own ns f }
+module _ (bytes : List ℕ) {s t : Names} (led : Led s t) where
+  pub some_led : (own : ℕ → List ℕ → List ℕ) (ns : List (List ℕ)) → Fitting bytes s own ns → FitsSome bytes t
+  some_led own ns f = record { own = own; names = ns; fitting = fitting_led bytes led f }
 
-  pub ranked_led : {ids counts : List ℕ} {r : Counted} {ids' counts' : List ℕ}
-      → ListsRanked 0 (held_list bytes start' df') n slot' m wanted' ids counts r ids' counts'
-      → ListsRanked led.b (held_list bytes start df) n slot m wanted ids counts r ids' counts'
+  pub ranked_led : {ids counts : List ℕ} {r : (Answer ℕ)} {ids' counts' : List ℕ}
+      → ListsRanked 0 bytes t ids counts r ids' counts' → ListsRanked led.b bytes s ids counts r ids' counts'
   ranked_led w = record {
-    replies = λ own ns f.
-        rw (first_led bytes led) at (w.replies own ns (fitting_led bytes led own ns f));
+    replies = λ own ns f. rw (first_led bytes led) at (w.replies own ns (fitting_led bytes led f));
   }

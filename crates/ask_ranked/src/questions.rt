@@ -10,11 +10,11 @@ use crate::names::rank_names;
 use ask_answer::layout::is_idle;
 use ask_names::lists::resolve;
 use ask_names::question::check_question;
-use read_open::header::{Layout, Opening};
+use ask_names::slots::Names;
+use read_open::header::Layout;
 use read_open::open_segment::open_layout;
 use rules::rule::Rule;
-use segment::checked::Checked;
-use segment::replies::Counted;
+use segment::refusal::Refusal;
 
 // The ranked answer to a phrase whose names stand in one text, by a layout that fits the bytes.
 fn rank_text(
@@ -24,45 +24,14 @@ fn rank_text(
     ends: &[u32],
     ids: &mut [u32],
     counts: &mut [u32],
-) -> Counted
+) -> Result<usize, Refusal>
     requires { Fits bytes.now at × (ends_fit 0 ends.now (length text.now) ≡ true) × (length ends.now ≤ 128)
         × (idle Rule.Phrase (length ends.now) ≡ false) }
     ensures { LayoutRanked bytes.now at (names 0 ends.now text.now) ids.old counts.old result ids.new counts.new }
 {
-    let mut slot = [0usize; 128];
-    let mut entry = [0usize; 128];
-    let mut start = [0usize; 128];
-    let mut end = [0usize; 128];
-    let mut df = [0u32; 128];
-    let mut checksum = [0u32; 128];
-    let mut wanted = [0u32; 128];
-    let named = resolve(
-        bytes,
-        at,
-        text,
-        ends,
-        &mut slot,
-        &mut entry,
-        &mut start,
-        &mut end,
-        &mut df,
-        &mut checksum,
-        &mut wanted,
-    );
-    rank_names(
-        bytes,
-        at,
-        named,
-        &mut slot,
-        &entry,
-        &mut start,
-        &end,
-        &mut df,
-        &checksum,
-        &mut wanted,
-        ids,
-        counts,
-    )
+    let mut found = Names::new();
+    resolve(bytes, at, text, ends, &mut found);
+    rank_names(bytes, at, &mut found, ids, counts)
 }
 
 // The documents that have the names at consecutive positions, the best first: how many, their ids, and beside each at how many starts the
@@ -74,20 +43,13 @@ pub fn phrase_match_ranked(
     ends: &[u32],
     ids: &mut [u32],
     counts: &mut [u32],
-) -> Counted
+) -> Result<usize, Refusal>
     ensures { RankedAnswered bytes.now text.now ends.now ids.old counts.old result ids.new counts.new }
 {
-    if let Checked::Refused(x) = check_question(text, ends) {
-        return Counted::Refused(x);
-    }
-    let at = match open_layout(bytes) {
-        Opening::Layout(at) => at,
-        Opening::Refused(x) => {
-            return Counted::Refused(x);
-        }
-    };
+    check_question(text, ends)?;
+    let at = open_layout(bytes)?;
     if is_idle(Rule::Phrase, ends.len()) {
-        return Counted::Count(0);
+        return Ok(0);
     }
     rank_text(bytes, at, text, ends, ids, counts)
 }

@@ -1,29 +1,25 @@
 -- The leap to the next document that every list holds: what a turn keeps, and what the leap tells of the lists.
 -- Assumes nothing.
-use Prim.Native.Nat.{ℕ, zero, suc, ◌+◌, ◌^◌, ◌≤◌, ◌<◌}
-use mathlib.Core.Path.{◌≡◌, refl, sym, ap, subst, ◌∙◌}
+use Prim.Native.Nat.{ℕ, zero, suc, ◌+◌, ◌≤◌, ◌<◌}
+use mathlib.Core.Path.{◌≡◌, refl, sym, ap, ◌∙◌}
 use mathlib.Core.Bool.{Bool, true, false, cond}
 use mathlib.Core.List.{List, [], ◌∷◌, map}
 use mathlib.Core.Logic.{⊎_elim}
 use native.Mathlib.Omega.{arith}
 use lib.Dec.{ltb}
-use lib.ListN.{set}
-use lib.Seq.{get_or-set_same, get_or-set_other}
 use borrow.Author.Count.{below_more}
 use borrow.Author.Tests.{ltb-true, eq-eqb, ne_eqb}
 use Rattle.read_cursors.specs.Held.{seek_in, PostingAt, posting_of}
 use Rattle.segment.specs.Records.{Posting}
 use Rattle.read_cursors.specs.declared.postings.Postings.{Postings}
 use Rattle.calls.specs.Lookups.{positions_of}
-use Rattle.read_cursors.specs.Steps.{postings_at, postings_from, SoughtPosting}
+use Rattle.read_cursors.specs.Steps.{postings_at, postings_from}
 use Rattle.read_cursors.proofs.Rising.{Rises, from_rise_postings}
-use Rattle.ask_match.specs.Steps.{Changed}
 use Rattle.ask_match.proofs.Places.{each_changed}
 use Rattle.common.proofs.Loops.{lt_or_ge}
 use Rattle.common.specs.Elements.{Rising}
 use Rattle.calls.proofs.Posted.{docs}
-use Rattle.ask_walk.specs.Steps.{cursors_in, InTables, SoughtList, positions_under, list_of, Lacked, LeaptTo}
-use Rattle.ask_walk.specs.Steps.{Leapt}
+use Rattle.ask_walk.specs.Steps.{SoughtList, positions_under, list_of, Lacked, LeaptTo}
 
 -- ---- a document's positions from a cursor on
 
@@ -79,33 +75,6 @@ module _ (bytes : List ℕ) (c : Postings) where
   at_front (suc n) d h e = rw (eq-eqb c.doc.0 d e)
 
 -- ---- the cursors
-
--- each table set at the index
-pub list_set : (at count remaining doc : List ℕ) (k : ℕ) (c : Postings) → InTables k at count remaining doc
-    → Changed k c (cursors_in at count remaining doc)
-    (cursors_in (set at k c.at) (set count k c.count) (set remaining k c.remaining) (set doc k c.doc.0))
-list_set at count remaining doc k c h = record {
-  here =
-      rw (
-        get_or-set_same at k c.at 0 h.offsets,
-        get_or-set_same count k c.count 0 h.counts,
-        get_or-set_same remaining k c.remaining 0 h.postings,
-        get_or-set_same doc k c.doc.0 0 h.documents,
-      );
-  other = λ j ne.
-      rw (
-        get_or-set_other at k j c.at 0 ne,
-        get_or-set_other count k j c.count 0 ne,
-        get_or-set_other remaining k j c.remaining 0 ne,
-        get_or-set_other doc k j c.doc.0 0 ne,
-      );
-}
-
--- a cursor read from the tables, advanced, and stored again
-pub list_sought : {bytes : List ℕ} {target k : ℕ} {at new : ℕ → Postings} {c r : Postings} → c ≡ at k → SoughtPosting bytes target c r
-    → Changed k r at new → SoughtList bytes target k at new r
-list_sought {bytes} {target} {r = r} read so ch =
-    record { sought = subst (λ (x : Postings). SoughtPosting bytes target x r) read so; stored = ch }
 
 -- from doc on the cursors show what the lists have; those before k are at doc
 pub record Cursors (bytes : List ℕ) (heads at : ℕ → Postings) (doc k : ℕ) : Type 0 where
@@ -194,18 +163,16 @@ module _ {bytes : List ℕ} {m from : ℕ} {heads at : ℕ → Postings} (w : Cu
   lacked_since {e} h l = record { list = l.list; among = l.among; none = sym (w.same l.list e h) ∙ l.none }
 
   -- what a leap tells of the lists from the cursors on is so of the whole lists
-  pub leapt_since : {new : ℕ → Postings} {d : ℕ} → Leapt bytes m from at new d → d < 2 ^ 32 → LeaptTo bytes m from heads new d
-  leapt_since {d = d} told h =
-      let l = told.document h in record {
-        reached = l.reached;
-        skipped = λ x h u. lacked_since h (l.skipped x h u);
-        here = λ j h. sym (w.same j d l.reached) ∙ l.here j h;
-        same = λ j x h. l.same j x h ∙ w.same j x (omega (arith, l.reached));
-      }
+  pub leapt_since : {new : ℕ → Postings} {d : ℕ} → LeaptTo bytes m from at new d → LeaptTo bytes m from heads new d
+  leapt_since {d = d} l = record {
+    reached = l.reached;
+    skipped = λ x h u. lacked_since h (l.skipped x h u);
+    here = λ j h. sym (w.same j d l.reached) ∙ l.here j h;
+    same = λ j x h. l.same j x h ∙ w.same j x (omega (arith, l.reached));
+  }
 
-  pub ended_since : {new : ℕ → Postings} {r : ℕ} → Leapt bytes m from at new r → 2 ^ 32 ≤ r
-      → (d : ℕ) → from ≤ d → Lacked bytes m heads d
-  ended_since told e d h = lacked_since h (told.none e d h)
+  pub ended_since : ((d : ℕ) → from ≤ d → Lacked bytes m at d) → (d : ℕ) → from ≤ d → Lacked bytes m heads d
+  ended_since none d h = lacked_since h (none d h)
 
 pub leapt_past : {bytes : List ℕ} {m from : ℕ} {heads new : ℕ → Postings} {d : ℕ} → LeaptTo bytes m from heads new d
     → Cursors bytes heads new (d + 1) 0

@@ -1,6 +1,5 @@
 -- Laws that belong to no one function, lowest first.
 pub mod Here
-pub mod Opened
 pub mod Leaps
 pub mod Stored
 pub mod Walks

@@ -1,6 +1,5 @@
 -- What the walk over the documents computes.
-use Rattle.std.specs.Prelude.{ℕ, ◌^◌, ◌≤◌, ◌<◌, ◌≡◌, Bool, cond, List, [], map, length, drop, get_or}
-use Rattle.std.proofs.Math.Option.{none}
+use Rattle.std.specs.Prelude.{None, Option, Some, ℕ, ◌≤◌, ◌<◌, ◌≡◌, Bool, List, [], map, length, drop, get_or}
 use Rattle.std.proofs.lemmas.List.Edits.{sets}
 use Rattle.rules.specs.declared.rule.Rule.{Rule}
 use Rattle.rules.specs.declared.rule.Rule.TheVariants.{Phrase}
@@ -13,24 +12,13 @@ use Rattle.read_cursors.specs.Steps.{positions_from, postings_from, SoughtPostin
 use Rattle.ask_match.specs.Steps.{Changed}
 use Rattle.ask_names.specs.Steps.{Numbered}
 use Rattle.segment.specs.Records.{Posting}
+use Rattle.segment.specs.declared.ids.DocId.{DocId}
 use Rattle.calls.specs.Lookups.{positions_of}
 use Rattle.common.specs.Members.{kept}
 
--- the cursors over lists whose numbers four tables hold
-abbrev pub cursors_in : (at count remaining doc : List ℕ) → ℕ → Postings
-cursors_in at count remaining doc k = record {
-  at = get_or at k 0;
-  count = get_or count k 0;
-  remaining = get_or remaining k 0;
-  doc = record { 0 = get_or doc k 0 };
-}
-
--- four tables that have an element with index k
-pub record InTables (k : ℕ) (at count remaining doc : List ℕ) : Type 0 where
-  pub offsets : k < length at
-  pub counts : k < length count
-  pub postings : k < length remaining
-  pub documents : k < length doc
+-- the cursors over lists of a table, by index; past its end there are none
+abbrev pub cursors_in : (lists : List Postings) → ℕ → Postings
+cursors_in lists k = get_or lists k (record { at = 0; count = 0; remaining = 0; doc = record { 0 = 0 } })
 
 -- the cursor over list k advanced
 pub record SoughtList (bytes : List ℕ) (target k : ℕ) (old new : ℕ → Postings) (r : Postings) : Type 0 where
@@ -41,23 +29,7 @@ pub record SoughtList (bytes : List ℕ) (target k : ℕ) (old new : ℕ → Pos
 
 -- the positions of the posting that a cursor is at
 abbrev pub positions_under : (bytes : List ℕ) → Postings → List ℕ
-positions_under bytes p = held_positions p.count none (drop p.at bytes)
-
--- the term of cursor i: that of name i, or term i where each term has a cursor
-abbrev pub cursor_term : (each : Bool) (slot : List ℕ) (i : ℕ) → ℕ
-cursor_term each slot i = cond each i (get_or slot i 0)
-
--- where the positions of each term's posting start, and how many there are, is all that a rule needs of the cursors over lists
-abbrev pub postings_in : (at count : List ℕ) → ℕ → Postings
-postings_in at count = cursors_in at count [] []
-
--- the terms of n cursors are indices of the tables, and there is room for the cursors
-pub record Openable (n : ℕ) (term : ℕ → ℕ) (at remaining pos : List ℕ) : Type 0 where
-  pub few : n ≤ 128
-  pub inside : (i : ℕ) → i < n → term i < 128
-  pub offsets : n ≤ length at
-  pub counts : n ≤ length remaining
-  pub places : n ≤ length pos
+positions_under bytes p = held_positions p.count None (drop p.at bytes)
 
 -- n cursors, each at the first position of its term
 pub record CursorsOpened (bytes : List ℕ) (n : ℕ) (term : ℕ → ℕ) (at : ℕ → Postings) (r : ℕ → Positions) : Type 0 where
@@ -97,10 +69,10 @@ pub record LeaptTo (bytes : List ℕ) (m from : ℕ) (old new : ℕ → Postings
   pub here : (j : ℕ) → j < m → positions_of (list_of bytes old j) d ≡ positions_under bytes (new j)
   pub same : (j e : ℕ) → d ≤ e → positions_of (list_of bytes new j) e ≡ positions_of (list_of bytes old j) e
 
--- that document, or, by a number that no id is, that there is none
-pub record Leapt (bytes : List ℕ) (m from : ℕ) (old new : ℕ → Postings) (r : ℕ) : Type 0 where
-  pub document : r < 2 ^ 32 → LeaptTo bytes m from old new r
-  pub none : 2 ^ 32 ≤ r → (e : ℕ) → from ≤ e → Lacked bytes m old e
+-- that document, or that there is none
+abbrev pub Leapt : (bytes : List ℕ) (m from : ℕ) (old new : ℕ → Postings) (r : Option DocId) → Type 0
+Leapt bytes m from old new (Some d) = LeaptTo bytes m from old new d.0
+Leapt bytes m from old new None = (e : ℕ) → from ≤ e → Lacked bytes m old e
 
 -- a count, and ids from a buffer's front on, as far as it goes
 pub record FoundIds (found before : List ℕ) (r : ℕ) (after : List ℕ) : Type 0 where

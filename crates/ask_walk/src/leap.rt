@@ -5,37 +5,35 @@ ghost use Rattle.ask_walk.specs.Steps.{cursors_in, Leapt};
 
 use crate::tables::seek_list;
 use common::widths::wide;
+use read_cursors::postings::Postings;
+use segment::ids::DocId;
 
-// The least document not below `from` that all m lists hold, each list's cursor at its posting; 2^32, which is no id, if there is none.
+// The least document not below `from` that all m lists hold, each list's cursor at its posting, if there is one.
 // The contract says what the walk needs: of every document passed some list has no position.
-// The cursor over list k is at[k], count[k], remaining[k], doc[k]: these move on, and the documents that were passed are lost to them.
+// The cursor over list k is lists[k]: these move on, and the documents that were passed are lost to them.
 pub fn next_document(
     bytes: &[u8],
     m: usize,
-    at: &mut [usize; 128],
-    count: &mut [u32; 128],
-    remaining: &mut [u32; 128],
-    doc: &mut [u32; 128],
+    lists: &mut [Postings; 128],
     from: u64,
-) -> u64
+) -> Option<DocId>
     requires { (0 < m) × (m ≤ 128) × (from ≤ 2 ^ 32) }
-    ensures { Leapt bytes.now m from (cursors_in at.old count.old remaining.old doc.old)
-        (cursors_in at.new count.new remaining.new doc.new) result }
+    ensures { Leapt bytes.now m from (cursors_in lists.old) (cursors_in lists.new) result }
 {
-    let mut next: u64 = from;
+    let mut next = from;
     let mut k: usize = 0;
+    // No index loop: a list that is past the document sends k back to 0.
     loop {
-        let here = seek_list(bytes, at, count, remaining, doc, k, next);
+        let here = seek_list(bytes, lists, k, next);
         if here.remaining == 0 {
-            return 0x1_0000_0000;
+            return None;
         }
-        let id = here.doc;
-        let reached = wide(id.0);
+        let reached = wide(here.doc.0);
         // the end is looked for here, not before each turn: else the compiler moves k without a branch, and a turn waits for the one before
         if reached == next {
             k += 1;
             if k == m {
-                return next;
+                return Some(here.doc);
             }
         } else {
             next = reached;

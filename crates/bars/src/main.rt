@@ -5,7 +5,6 @@
 use ask_search::questions::{near_match_terms_strs, phrase_match_strs};
 use read_open::open_segment::open;
 use segment::refusal::Refusal;
-use segment::replies::{Counted, Opened, Written};
 use show_print::print::write_listing;
 use std::io;
 use write_segment::write::write_positional_segment;
@@ -20,10 +19,11 @@ fn put_number(rt: &impl Print, x: u64) -> io::Result<()> {
 }
 
 fn put_refusal(rt: &impl Print, x: Refusal) -> io::Result<()> {
+    let n = x.numbers();
     put(rt, b" refused")?;
-    put_number(rt, x.kind as u64)?;
-    put_number(rt, x.which as u64)?;
-    put_number(rt, x.index)?;
+    put_number(rt, n.kind as u64)?;
+    put_number(rt, n.which as u64)?;
+    put_number(rt, n.index)?;
     put(rt, b"\n")
 }
 
@@ -37,45 +37,39 @@ fn put_u8(rt: &impl Print, x: u8) -> io::Result<()> {
 
 // The first n numbers of a buffer.
 fn put_first(rt: &impl Print, n: usize, xs: &[u32]) -> io::Result<()> {
-    let mut i: usize = 0;
-    while i < xs.len() {
-        if i < n {
-            put_u32(rt, xs[i])?;
-        }
-        i += 1;
+    for x in xs.iter().take(n) {
+        put_u32(rt, *x)?;
     }
     Ok(())
 }
 
 fn put_bytes(rt: &impl Print, bytes: &[u8]) -> io::Result<()> {
-    let mut i: usize = 0;
-    while i < bytes.len() {
-        put_u8(rt, bytes[i])?;
-        i += 1;
+    for b in bytes {
+        put_u8(rt, *b)?;
     }
     Ok(())
 }
 
-fn put_answer(rt: &impl Print, answer: Counted, ids: &[u32]) -> io::Result<()> {
+fn put_answer(rt: &impl Print, answer: Result<usize, Refusal>, ids: &[u32]) -> io::Result<()> {
     match answer {
-        Counted::Count(n) => {
+        Ok(n) => {
             if n == 0 {
                 put(rt, b" none")?;
             }
             put_first(rt, n, ids)?;
             put(rt, b"\n")
         }
-        Counted::Refused(x) => put_refusal(rt, x),
+        Err(x) => put_refusal(rt, x),
     }
 }
 
-fn put_written(rt: &impl Print, answer: Written) -> io::Result<()> {
+fn put_written(rt: &impl Print, answer: Result<usize, Refusal>) -> io::Result<()> {
     match answer {
-        Written::Length(n) => {
+        Ok(n) => {
             put_number(rt, n as u64)?;
             put(rt, b" bytes\n")
         }
-        Written::Refused(x) => put_refusal(rt, x),
+        Err(x) => put_refusal(rt, x),
     }
 }
 
@@ -119,12 +113,12 @@ fn near(
 
 fn opened(rt: &impl Print, segment: &[u8]) -> io::Result<()> {
     match open(segment) {
-        Opened::Counts(c) => {
+        Ok(c) => {
             put_number(rt, c.documents as u64)?;
             put_number(rt, c.terms as u64)?;
             put(rt, b"\n")
         }
-        Opened::Refused(x) => put_refusal(rt, x),
+        Err(x) => put_refusal(rt, x),
     }
 }
 
@@ -207,7 +201,7 @@ fn two_documents(rt: &impl Print) -> io::Result<()> {
     put(rt, b"two bars:")?;
     write_two(rt, &mut out)?;
     let mut text = [0u8; 200];
-    write_listing(&mut io::writer(rt), &out, &mut text)?;
+    let _ = write_listing(&mut io::writer(rt), &out, &mut text)?;
     phrases(rt, &out)?;
     nears(rt, &out)?;
     put(rt, b"one place short:")?;
@@ -236,12 +230,10 @@ fn no_documents(rt: &impl Print) -> io::Result<()> {
 
 // Fills a buffer with numbers that follow one another.
 fn count_up(from: u32, xs: &mut [u32]) {
-    let mut x = from;
-    let mut i: usize = 0;
-    while i < xs.len() {
-        xs[i] = x;
-        x = std::num::wrapping_add_u32(x, 1);
-        i += 1;
+    let mut next = from;
+    for x in xs.iter_mut() {
+        *x = next;
+        next = std::num::wrapping_add_u32(next, 1);
     }
 }
 

@@ -1,23 +1,13 @@
 -- The C interface's one reply, made of each call's answer: kind 0 is acceptance, with the answer's numbers first to fourth, 0 where there
 -- are fewer; a refusal has its three numbers, and zeros.
-use Rattle.std.specs.Prelude.{ℕ, ◌≡◌}
+use Rattle.segment.specs.Refusals.{numbers}
+use Rattle.std.specs.Prelude.{Err, None, Ok, Option, Some, ℕ, ◌≡◌}
+use Rattle.segment.specs.Results.{Answer}
+use Rattle.segment.specs.declared.replies.Counts.{Counts}
+use Rattle.segment.specs.declared.replies.ListTotals.{ListTotals}
+use Rattle.segment.specs.declared.replies.Totals.{Totals}
 use Rattle.segment.specs.declared.refusal.Refusal.{Refusal}
-use Rattle.segment.specs.declared.replies.Opened.{Opened}
-use Rattle.segment.specs.declared.replies.Opened.TheVariants as opened
-use Rattle.segment.specs.declared.replies.Counted.{Counted}
-use Rattle.segment.specs.declared.replies.Counted.TheVariants as counted
-use Rattle.segment.specs.declared.replies.Length.{Length}
-use Rattle.segment.specs.declared.replies.Length.TheVariants as len
-use Rattle.segment.specs.declared.replies.DocFreq.{DocFreq}
-use Rattle.segment.specs.declared.replies.DocFreq.TheVariants as frequency
-use Rattle.segment.specs.declared.replies.TermTotals.{TermTotals}
-use Rattle.segment.specs.declared.replies.TermTotals.TheVariants as listed
-use Rattle.segment.specs.declared.replies.Written.{Written}
-use Rattle.segment.specs.declared.replies.Written.TheVariants as written
-use Rattle.segment.specs.declared.replies.Imported.{Imported}
-use Rattle.segment.specs.declared.replies.Imported.TheVariants as imported
 use Rattle.segment.specs.declared.replies.BarRead.{BarRead}
-use Rattle.segment.specs.declared.replies.BarRead.TheVariants as back
 use Rattle.c_reply.specs.declared.reply.Reply.{Reply}
 
 abbrev pub accepted_four : (first second third fourth : ℕ) → Reply
@@ -27,46 +17,54 @@ abbrev pub accepted : (first second : ℕ) → Reply
 accepted a b = accepted_four a b 0 0
 
 abbrev pub refused : Refusal → Reply
-refused x = record { kind = x.kind; which = x.which; index = x.index; first = 0; second = 0; third = 0; fourth = 0 }
+refused x = record {
+  kind = (numbers x).kind;
+  which = (numbers x).which;
+  index = (numbers x).index;
+  first = 0;
+  second = 0;
+  third = 0;
+  fourth = 0;
+}
 
 -- documents and terms
-abbrev pub opened_reply : Opened → Reply
-opened_reply (opened.Counts c) = accepted c.documents c.terms
-opened_reply (opened.Refused x) = refused x
+abbrev pub opened_reply : Answer Counts → Reply
+opened_reply (Ok c) = accepted c.documents c.terms
+opened_reply (Err x) = refused x
 
 -- 1 and the length, or 0 and 0 where the document is unknown
-abbrev pub length_reply : Length → Reply
-length_reply (len.Known n) = accepted 1 n
-length_reply len.Absent = accepted 0 0
-length_reply (len.Refused x) = refused x
+abbrev pub length_reply : Answer (Option ℕ) → Reply
+length_reply (Ok (Some n)) = accepted 1 n
+length_reply (Ok None) = accepted 0 0
+length_reply (Err x) = refused x
 
-abbrev pub frequency_reply : DocFreq → Reply
-frequency_reply (frequency.Df n) = accepted n 0
-frequency_reply (frequency.Refused x) = refused x
+-- how many: elements that were stored, or bytes that were written
+abbrev pub counted_reply : Answer ℕ → Reply
+counted_reply (Ok n) = accepted n 0
+counted_reply (Err x) = refused x
 
-abbrev pub counted_reply : Counted → Reply
-counted_reply (counted.Count n) = accepted n 0
-counted_reply (counted.Refused x) = refused x
+-- the df
+abbrev pub frequency_reply : Answer ℕ → Reply
+frequency_reply = counted_reply
 
 -- postings and positions
-abbrev pub listed_reply : TermTotals → Reply
-listed_reply (listed.Totals t) = accepted t.postings t.positions
-listed_reply (listed.Refused x) = refused x
+abbrev pub listed_reply : Answer Totals → Reply
+listed_reply (Ok t) = accepted t.postings t.positions
+listed_reply (Err x) = refused x
 
 -- how many bytes
-abbrev pub written_reply : Written → Reply
-written_reply (written.Length n) = accepted n 0
-written_reply (written.Refused x) = refused x
+abbrev pub written_reply : Answer ℕ → Reply
+written_reply = counted_reply
 
 -- documents (bars), terms (sounds), postings and positions
-abbrev pub imported_reply : Imported → Reply
-imported_reply (imported.Totals t) = accepted_four t.documents t.terms t.postings t.positions
-imported_reply (imported.Refused x) = refused x
+abbrev pub imported_reply : Answer ListTotals → Reply
+imported_reply (Ok t) = accepted_four t.documents t.terms t.postings t.positions
+imported_reply (Err x) = refused x
 
 -- hits of a bar read back, and its length
-abbrev pub bar_read_reply : BarRead → Reply
-bar_read_reply (back.Bar hits len) = accepted hits len
-bar_read_reply (back.Refused x) = refused x
+abbrev pub bar_read_reply : Answer BarRead → Reply
+bar_read_reply (Ok bar) = accepted bar.hits bar.len
+bar_read_reply (Err x) = refused x
 
 -- the stored number of hits; that call has no refusal
 abbrev pub hits_reply : ℕ → Reply

@@ -1,14 +1,14 @@
 // One reply for all calls: kind 0 is acceptance, with the answer's numbers; else the three numbers of a refusal.
 ghost use Rattle.std.specs.Prelude.{◌≡◌};
 ghost use Rattle.c_reply.specs.Replies.{accepted, accepted_four, refused, opened_reply, length_reply, frequency_reply};
-ghost use Rattle.c_reply.specs.Replies.{counted_reply, listed_reply, written_reply, imported_reply, bar_read_reply, hits_reply};
+ghost use Rattle.c_reply.specs.Replies.{counted_reply, listed_reply, imported_reply, bar_read_reply, hits_reply};
 
-use segment::refusal::Refusal;
-use segment::replies::{BarRead, Counted, DocFreq, Imported, Length, Opened, TermTotals, Written};
+use segment::refusal::{Numbers, Refusal};
+use segment::replies::{BarRead, Counts, ListTotals, Totals};
 
 // kind 0: accepted, and first to fourth have the answer's numbers, 0 where there are fewer. Else a refusal, and all four are 0.
 #[repr(C)]
-#[derive(Clone, Copy)]
+#[derive(Clone, Copy, PartialEq, Eq)]
 pub struct Reply {
     pub kind: u32,
     pub which: u32,
@@ -34,10 +34,10 @@ fn accept_four(first: u64, second: u64, third: u64, fourth: u64) -> Reply
         kind: 0,
         which: 0,
         index: 0,
-        first: first,
-        second: second,
-        third: third,
-        fourth: fourth,
+        first,
+        second,
+        third,
+        fourth,
     }
 }
 
@@ -45,10 +45,11 @@ fn accept_four(first: u64, second: u64, third: u64, fourth: u64) -> Reply
 fn refuse(x: Refusal) -> Reply
     ensures { result ≡ refused x }
 {
+    let Numbers { kind, which, index } = x.numbers();
     Reply {
-        kind: x.kind,
-        which: x.which,
-        index: x.index,
+        kind,
+        which,
+        index,
         first: 0,
         second: 0,
         third: 0,
@@ -57,88 +58,75 @@ fn refuse(x: Refusal) -> Reply
 }
 
 // documents, terms
-pub fn of_opened(a: Opened) -> Reply
+pub fn of_opened(a: Result<Counts, Refusal>) -> Reply
     ensures { result ≡ opened_reply a }
 {
     match a {
-        Opened::Counts(c) => accept(c.documents as u64, c.terms as u64),
-        Opened::Refused(x) => refuse(x),
+        Ok(c) => accept(c.documents as u64, c.terms as u64),
+        Err(x) => refuse(x),
     }
 }
 
 // 1 and the length, or 0 and 0 where the document is unknown
-pub fn of_length(a: Length) -> Reply
+pub fn of_length(a: Result<Option<u32>, Refusal>) -> Reply
     ensures { result ≡ length_reply a }
 {
     match a {
-        Length::Known(n) => accept(1, n as u64),
-        Length::Absent => accept(0, 0),
-        Length::Refused(x) => refuse(x),
+        Ok(Some(n)) => accept(1, n as u64),
+        Ok(None) => accept(0, 0),
+        Err(x) => refuse(x),
+    }
+}
+
+// how many: elements that were stored, or bytes that were written
+pub fn of_counted(a: Result<usize, Refusal>) -> Reply
+    ensures { result ≡ counted_reply a }
+{
+    match a {
+        Ok(n) => accept(n as u64, 0),
+        Err(x) => refuse(x),
     }
 }
 
 // df
-pub fn of_doc_freq(a: DocFreq) -> Reply
+pub fn of_doc_freq(a: Result<u32, Refusal>) -> Reply
     ensures { result ≡ frequency_reply a }
 {
-    match a {
-        DocFreq::Df(n) => accept(n as u64, 0),
-        DocFreq::Refused(x) => refuse(x),
-    }
-}
-
-// how many
-pub fn of_counted(a: Counted) -> Reply
-    ensures { result ≡ counted_reply a }
-{
-    match a {
-        Counted::Count(n) => accept(n as u64, 0),
-        Counted::Refused(x) => refuse(x),
-    }
+    of_counted(a.map(|df| df as usize))
 }
 
 // postings, positions
-pub fn of_listed(a: TermTotals) -> Reply
+pub fn of_listed(a: Result<Totals, Refusal>) -> Reply
     ensures { result ≡ listed_reply a }
 {
     match a {
-        TermTotals::Totals(t) => accept(t.postings as u64, t.positions as u64),
-        TermTotals::Refused(x) => refuse(x),
-    }
-}
-
-// how many bytes
-pub fn of_written(a: Written) -> Reply
-    ensures { result ≡ written_reply a }
-{
-    match a {
-        Written::Length(n) => accept(n as u64, 0),
-        Written::Refused(x) => refuse(x),
+        Ok(t) => accept(t.postings as u64, t.positions as u64),
+        Err(x) => refuse(x),
     }
 }
 
 // documents, terms, postings, positions
-pub fn of_imported(a: Imported) -> Reply
+pub fn of_imported(a: Result<ListTotals, Refusal>) -> Reply
     ensures { result ≡ imported_reply a }
 {
     match a {
-        Imported::Totals(t) => accept_four(
+        Ok(t) => accept_four(
             t.documents as u64,
             t.terms as u64,
             t.postings as u64,
             t.positions as u64,
         ),
-        Imported::Refused(x) => refuse(x),
+        Err(x) => refuse(x),
     }
 }
 
 // hits, length
-pub fn of_bar_read(a: BarRead) -> Reply
+pub fn of_bar_read(a: Result<BarRead, Refusal>) -> Reply
     ensures { result ≡ bar_read_reply a }
 {
     match a {
-        BarRead::Bar(hits, len) => accept(hits as u64, len as u64),
-        BarRead::Refused(x) => refuse(x),
+        Ok(bar) => accept(bar.hits as u64, bar.len as u64),
+        Err(x) => refuse(x),
     }
 }
 

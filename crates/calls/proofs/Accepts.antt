@@ -1,12 +1,12 @@
 -- The writer accepts exactly where document 01 names no refusal, and then it has written the segment's bytes.
 -- Assumes nothing.
+use Rattle.std.specs.Prelude.{Ok}
 use mathlib.Core.Path.{◌≡◌}
 use mathlib.Core.List.{List}
 use Prim.Native.Nat.{ℕ}
 use lib.Dec.{leb}
 use lib.ListN.{length}
 use borrow.Author.Tests.{leb-true, le-leb}
-use Rattle.segment.specs.Results.{ok}
 use Rattle.calls.specs.Given.{Lists, given}
 use Rattle.calls.specs.Checks.{check_lists}
 use Rattle.segment.proofs.Binds.{bind_gives, ok_same}
@@ -18,21 +18,21 @@ use Rattle.calls.specs.Acceptance.{Writable}
 use Rattle.calls.specs.Claims.{AcceptsExactly}
 
 module _ (l : Lists) (room : ℕ) where
-  gives : (bytes : List ℕ) → write l room ≡ ok bytes → Writable l room × (segment_bytes (given l) ≡ bytes)
+  gives : (bytes : List ℕ) → write l room ≡ Ok bytes → Writable l room × (segment_bytes (given l) ≡ bytes)
   unfolding write
   gives bytes e =
       let r = bind_gives (check_lists l) _ e in
       let enough = check_gives (leb (length (segment_bytes (given l))) room) _ _ r.2 in
       (record { lists = (checks_exactly l).0 r.1; room_enough = leb-true _ _ enough.0 }, ok_same enough.1)
 
-  from : Writable l room → write l room ≡ ok (segment_bytes (given l))
+  from : Writable l room → write l room ≡ Ok (segment_bytes (given l))
   unfolding write
   from n = rw ((checks_exactly l).1 n.lists, le-leb _ _ n.room_enough)
 
-  pub accepted_gives : {bytes : List ℕ} → write l room ≡ ok bytes → Writable l room
+  pub accepted_gives : {bytes : List ℕ} → write l room ≡ Ok bytes → Writable l room
   accepted_gives e = (gives _ e).0
 
-  pub accepted_is : {bytes : List ℕ} → write l room ≡ ok bytes → segment_bytes (given l) ≡ bytes
+  pub accepted_is : {bytes : List ℕ} → write l room ≡ Ok bytes → segment_bytes (given l) ≡ bytes
   accepted_is e = (gives _ e).1
 
 pub accepts_exactly : AcceptsExactly

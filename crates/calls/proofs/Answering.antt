@@ -1,5 +1,6 @@
 -- The answer: the ids of the documents that meet the rule, rising; it is enough to look at the documents of one of the names asked.
 -- Assumes nothing.
+use Rattle.std.specs.Prelude.{Err, Ok}
 use mathlib.Core.Path.{◌≡◌, sym, ap, ◌∙◌}
 use mathlib.Core.Bool.{Bool, true, false}
 use mathlib.Core.List.{List, []}
@@ -7,7 +8,6 @@ use mathlib.Core.Logic.{◌↔◌}
 use Prim.Native.Nat.{ℕ}
 use lib.ListN.{length}
 use Rattle.segment.specs.declared.refusal.Refusal.{Refusal}
-use Rattle.segment.specs.Results.{ok, refuse}
 use Rattle.segment.specs.Records.{Document, Term, Segment}
 use Rattle.calls.specs.Lookups.{positions_of}
 use Rattle.common.specs.Members.{kept}
@@ -68,16 +68,16 @@ module _ (rule : Rule) (ns : List (List ℕ)) (documents : List Document) where
 -- ---- the answers
 
 module _ (s : Segment) (rule : Rule) (ns : List (List ℕ)) where
-  pub answers_idle : idle rule (length ns) ≡ true → answers s rule ns ≡ ok []
+  pub answers_idle : idle rule (length ns) ≡ true → answers s rule ns ≡ Ok []
   unfolding answers
   answers_idle e = rw e
 
   module _ (busy : idle rule (length ns) ≡ false) where
-    pub answers_found : {ts : List Term} → decode_names s (different ns) ≡ ok ts → answers s rule ns ≡ ok (answer rule ns s.documents ts)
+    pub answers_found : {ts : List Term} → decode_names s (different ns) ≡ Ok ts → answers s rule ns ≡ Ok (answer rule ns s.documents ts)
     unfolding answers
     answers_found e = rw (busy, e)
 
-    pub answers_refused : {x : Refusal} → decode_names s (different ns) ≡ refuse x → answers s rule ns ≡ refuse x
+    pub answers_refused : {x : Refusal} → decode_names s (different ns) ≡ Err x → answers s rule ns ≡ Err x
     unfolding answers
     answers_refused e = rw (busy, e)
 
@@ -99,16 +99,16 @@ ranked_answer_same ns documents ts us h =
     (starts_same (decoded_positions ts d) (decoded_positions us d) ns (λ n k. ap (λ ps. positions_of ps d) (h n k))))))
 
 module _ (s : Segment) (ns : List (List ℕ)) where
-  pub ranked_idle : idle Phrase (length ns) ≡ true → ranked_answers s ns ≡ ok []
+  pub ranked_idle : idle Phrase (length ns) ≡ true → ranked_answers s ns ≡ Ok []
   unfolding ranked_answers
   ranked_idle e = rw e
 
   module _ (busy : idle Phrase (length ns) ≡ false) where
-    pub ranked_found : {ts : List Term} → decode_names s (different ns) ≡ ok ts
-        → ranked_answers s ns ≡ ok (ranked_answer ns s.documents ts)
+    pub ranked_found : {ts : List Term} → decode_names s (different ns) ≡ Ok ts
+        → ranked_answers s ns ≡ Ok (ranked_answer ns s.documents ts)
     unfolding ranked_answers
     ranked_found e = rw (busy, e)
 
-    pub ranked_refused : {x : Refusal} → decode_names s (different ns) ≡ refuse x → ranked_answers s ns ≡ refuse x
+    pub ranked_refused : {x : Refusal} → decode_names s (different ns) ≡ Err x → ranked_answers s ns ≡ Err x
     unfolding ranked_answers
     ranked_refused e = rw (busy, e)

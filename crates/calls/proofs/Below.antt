@@ -1,20 +1,19 @@
 -- A document's own positions in a list that was decoded are below its length.
 -- Assumes nothing.
+use Rattle.std.specs.Prelude.{Ok, Some}
 use mathlib.Core.Path.{◌≡◌, refl, ap, ◌∙◌}
 use mathlib.Core.Bool.{Bool, true, false, cond}
 use mathlib.Core.List.{List, [], ◌∷◌}
-use mathlib.Core.Option.{some}
 use Prim.Native.Nat.{ℕ}
 use lib.Dec.{eqb}
 use borrow.Author.Tests.{eqb-true}
-use Rattle.segment.specs.Results.{ok}
 use Rattle.segment.specs.Records.{Document, Posting, Entry}
 use Rattle.segment.specs.Metadata.{length_of}
 use Rattle.segment.specs.Postings.{decode}
 use Rattle.segment.proofs.Within.{AllBelow, Within, decode_within}
 use Rattle.calls.specs.Lookups.{positions_of}
 
-module _ (documents : List Document) (id len : ℕ) (known : length_of documents id ≡ some len) where
+module _ (documents : List Document) (id len : ℕ) (known : length_of documents id ≡ Some len) where
   pub positions_below : (ps : List Posting) → Within documents ps → AllBelow len (positions_of ps id)
   unfolding positions_of
   positions_below [] w = tt
@@ -25,5 +24,5 @@ module _ (documents : List Document) (id len : ℕ) (known : length_of documents
       step true e later = h len (ap (length_of documents) (eqb-true p.doc id e) ∙ known)
       step false e later = later
 
-  pub decoded_below : (e : Entry) {ps : List Posting} → decode documents e ≡ ok ps → AllBelow len (positions_of ps id)
+  pub decoded_below : (e : Entry) {ps : List Posting} → decode documents e ≡ Ok ps → AllBelow len (positions_of ps id)
   decoded_below e d = positions_below _ (decode_within documents e d)

@@ -1,5 +1,6 @@
 -- The ranked answer beside the plain one: it refuses alike, and else has the same documents, ranked by the number of their starts.
 -- Assumes nothing.
+use Rattle.std.specs.Prelude.{Err, Ok}
 use mathlib.Core.Path.{◌≡◌, refl, sym, ap, ◌∙◌, subst}
 use mathlib.Core.Bool.{Bool, true, false, cond}
 use mathlib.Core.List.{List, [], ◌∷◌}
@@ -13,7 +14,7 @@ use Rattle.common.proofs.Elements.{map_from}
 use Rattle.common.proofs.Membership.{at_place, map_gives}
 use Rattle.segment.specs.declared.refusal.Refusal.{Refusal}
 use Rattle.segment.specs.Refusals.{no_room}
-use Rattle.segment.specs.Results.{Result, ok, refuse, ◌>>=◌, check, roomy}
+use Rattle.segment.specs.Results.{Answer, ◌>>=◌, check, roomy}
 use Rattle.segment.specs.Records.{Posting, Term, Segment}
 use Rattle.segment.specs.Texts.{names}
 use Rattle.segment.specs.Opening.{open_segment}
@@ -86,7 +87,7 @@ ranking_only ids own ns ms others r q =
 -- a plain answer, and the ranked one beside it
 record Sides (s : Segment) (ns : List (List ℕ)) (plain : List ℕ) (found : List Match) : Type 0 where
   own : ℕ → List ℕ → List ℕ
-  positions : (n : List ℕ) → n ∈ ns → (ps : List Posting) × (postings_of s n ≡ ok ps) × ((d : ℕ) → own d n ≡ positions_of ps d)
+  positions : (n : List ℕ) → n ∈ ns → (ps : List Posting) × (postings_of s n ≡ Ok ps) × ((d : ℕ) → own d n ≡ positions_of ps d)
   long : length found ≡ length plain
   ranking : Ranking plain own ns found
 
@@ -100,7 +101,7 @@ none_idle s [] e = record {
 none_idle s (n ∷ ns) e = absurd (omega arith)
 
 module _ (s : Segment) (ns : List (List ℕ)) (rises : Rising (ids s.documents)) where
-  asked_sides : (ts : List Term) → 0 < length ns → decode_names s (different ns) ≡ ok ts
+  asked_sides : (ts : List Term) → 0 < length ns → decode_names s (different ns) ≡ Ok ts
       → Sides s ns (answer Phrase ns s.documents ts) (ranked_answer ns s.documents ts)
   unfolding ranked_answer
   asked_sides ts h e =
@@ -117,61 +118,61 @@ module _ (s : Segment) (ns : List (List ℕ)) (rises : Rising (ids s.documents))
       }
 
   -- both refuse, with one refusal, or both answer
-  abbrev Alike : Result (List ℕ) → Result (List Match) → Type 0
-  Alike (ok plain) (ok found) = Sides s ns plain found
-  Alike (ok plain) (refuse y) = ⊥
-  Alike (refuse x) (ok found) = ⊥
-  Alike (refuse x) (refuse y) = x ≡ y
+  abbrev Alike : Answer (List ℕ) → Answer (List Match) → Type 0
+  Alike (Ok plain) (Ok found) = Sides s ns plain found
+  Alike (Ok plain) (Err y) = ⊥
+  Alike (Err x) (Ok found) = ⊥
+  Alike (Err x) (Err y) = x ≡ y
 
   answers_alike : Alike (answers s Phrase ns) (ranked_answers s ns)
   unfolding answers ranked_answers
   answers_alike = by_test (eqb (length ns) 0) refl (decode_names s (different ns)) refl
     where
-      by_test : (t : Bool) → eqb (length ns) 0 ≡ t → (r : Result (List Term)) → decode_names s (different ns) ≡ r
-          → Alike (cond t (ok []) (r >>= λ ts. ok (answer Phrase ns s.documents ts)))
-          (cond t (ok []) (r >>= λ ts. ok (ranked_answer ns s.documents ts)))
+      by_test : (t : Bool) → eqb (length ns) 0 ≡ t → (r : Answer (List Term)) → decode_names s (different ns) ≡ r
+          → Alike (cond t (Ok []) (r >>= λ ts. Ok (answer Phrase ns s.documents ts)))
+          (cond t (Ok []) (r >>= λ ts. Ok (ranked_answer ns s.documents ts)))
       by_test true t r e = none_idle s ns (eqb-true (length ns) 0 t)
-      by_test false t (ok ts) e = asked_sides ts (omega (arith, eqb-false (length ns) 0 t)) e
-      by_test false t (refuse x) e = refl
+      by_test false t (Ok ts) e = asked_sides ts (omega (arith, eqb-false (length ns) 0 t)) e
+      by_test false t (Err x) e = refl
 
   -- the ranked answer beside a plain one
-  beside : (r : Result (List ℕ)) (t : Result (List Match)) → Alike r t → {plain : List ℕ} → r ≡ ok plain
-      → (found : List Match) × (t ≡ ok found) × Sides s ns plain found
-  beside (ok js) (ok found) a {plain} e = (found, refl, subst (λ (l : List ℕ). Sides s ns l found) (ok_same e) a)
-  beside (ok js) (refuse y) a e = absurd a
-  beside (refuse x) (ok found) a e = absurd a
-  beside (refuse x) (refuse y) a e = refuse_ok e
+  beside : (r : Answer (List ℕ)) (t : Answer (List Match)) → Alike r t → {plain : List ℕ} → r ≡ Ok plain
+      → (found : List Match) × (t ≡ Ok found) × Sides s ns plain found
+  beside (Ok js) (Ok found) a {plain} e = (found, refl, subst (λ (l : List ℕ). Sides s ns l found) (ok_same e) a)
+  beside (Ok js) (Err y) a e = absurd a
+  beside (Err x) (Ok found) a e = absurd a
+  beside (Err x) (Err y) a e = refuse_ok e
 
   -- what is refused before the counts are looked at, 13 for ids included
-  refused_alike : (r : Result (List ℕ)) (t : Result (List Match)) → Alike r t → (id_room count_room : ℕ) {x : Refusal}
-      → (r >>= λ plain. roomy 1 (length plain) id_room >>= λ _. ok plain) ≡ refuse x
-      → (t >>= λ found. roomy 1 (length found) id_room >>= λ _. roomy 2 (length found) count_room >>= λ _. ok found) ≡ refuse x
-  refused_alike (ok plain) (ok found) a id_room count_room {x} e = rw a.long (by_room (leb (length plain) id_room) e)
+  refused_alike : (r : Answer (List ℕ)) (t : Answer (List Match)) → Alike r t → (id_room count_room : ℕ) {x : Refusal}
+      → (r >>= λ plain. roomy 1 (length plain) id_room >>= λ _. Ok plain) ≡ Err x
+      → (t >>= λ found. roomy 1 (length found) id_room >>= λ _. roomy 2 (length found) count_room >>= λ _. Ok found) ≡ Err x
+  refused_alike (Ok plain) (Ok found) a id_room count_room {x} e = rw a.long (by_room (leb (length plain) id_room) e)
     where
-      by_room : (t : Bool) → (check t (no_room 1 (length plain)) >>= λ _. ok plain) ≡ refuse x
-          → (check t (no_room 1 (length plain)) >>= λ _. roomy 2 (length plain) count_room >>= λ _. ok found) ≡ refuse x
+      by_room : (t : Bool) → (check t (no_room 1 (length plain)) >>= λ _. Ok plain) ≡ Err x
+          → (check t (no_room 1 (length plain)) >>= λ _. roomy 2 (length plain) count_room >>= λ _. Ok found) ≡ Err x
       by_room true e = refuse_ok (sym e)
       by_room false e = cc
-  refused_alike (ok plain) (refuse y) a id_room count_room e = absurd a
-  refused_alike (refuse x) (ok found) a id_room count_room e = absurd a
-  refused_alike (refuse x) (refuse y) a id_room count_room e = cc
+  refused_alike (Ok plain) (Err y) a id_room count_room e = absurd a
+  refused_alike (Err x) (Ok found) a id_room count_room e = absurd a
+  refused_alike (Err x) (Err y) a id_room count_room e = cc
 
 -- ---- the two calls
 
 -- a refusal in front stands in both
-in_front : {A B : Type 0} (c : Result (Unit {0})) (o : Result Segment) (f : Segment → Result A) (g : Segment → Result B) {x : Refusal}
-    → ((s : Segment) → o ≡ ok s → f s ≡ refuse x → g s ≡ refuse x)
-    → (c >>= λ _. o >>= f) ≡ refuse x → (c >>= λ _. o >>= g) ≡ refuse x
-in_front (ok u) (ok s) f g h e = h s refl e
-in_front (ok u) (refuse y) f g h e = cc
-in_front (refuse y) o f g h e = cc
+in_front : {A B : Type 0} (c : Answer (Unit {0})) (o : Answer Segment) (f : Segment → Answer A) (g : Segment → Answer B) {x : Refusal}
+    → ((s : Segment) → o ≡ Ok s → f s ≡ Err x → g s ≡ Err x)
+    → (c >>= λ _. o >>= f) ≡ Err x → (c >>= λ _. o >>= g) ≡ Err x
+in_front (Ok u) (Ok s) f g h e = h s refl e
+in_front (Ok u) (Err y) f g h e = cc
+in_front (Err y) o f g h e = cc
 
 module _ (bytes text ends : List ℕ) (id_room count_room : ℕ) where
   abbrev ns : List (List ℕ)
   ns = names 0 ends text
 
-  refused : (x : Refusal) → search_text bytes Phrase text ends id_room ≡ refuse x
-      → search_ranked bytes text ends id_room count_room ≡ refuse x
+  refused : (x : Refusal) → search_text bytes Phrase text ends id_room ≡ Err x
+      → search_ranked bytes text ends id_room count_room ≡ Err x
   unfolding search_text search search_ranked
   refused x e =
       in_front (check_question text ends) (open_segment bytes) _ _
@@ -180,9 +181,9 @@ module _ (bytes text ends : List ℕ) (id_room count_room : ℕ) where
       e
 
   -- past the answer and 13 for ids
-  goes_on : {u : Unit {0}} {s : Segment} {found : List Match} {n : ℕ} → check_question text ends ≡ ok u → open_segment bytes ≡ ok s
-      → ranked_answers s ns ≡ ok found → length found ≡ n → leb n id_room ≡ true
-      → search_ranked bytes text ends id_room count_room ≡ (roomy 2 n count_room >>= λ _. ok found)
+  goes_on : {u : Unit {0}} {s : Segment} {found : List Match} {n : ℕ} → check_question text ends ≡ Ok u → open_segment bytes ≡ Ok s
+      → ranked_answers s ns ≡ Ok found → length found ≡ n → leb n id_room ≡ true
+      → search_ranked bytes text ends id_room count_room ≡ (roomy 2 n count_room >>= λ _. Ok found)
   unfolding search_ranked
   goes_on c o b l fits = rw (c, o, b, l, fits)
 
@@ -190,11 +191,11 @@ module _ (bytes text ends : List ℕ) (id_room count_room : ℕ) where
   record Both (plain : List ℕ) : Type 0 where
     segment : Segment
     found : List Match
-    opens : open_segment bytes ≡ ok segment
+    opens : open_segment bytes ≡ Ok segment
     sides : Sides segment ns plain found
-    goes_on : search_ranked bytes text ends id_room count_room ≡ (roomy 2 (length plain) count_room >>= λ _. ok found)
+    goes_on : search_ranked bytes text ends id_room count_room ≡ (roomy 2 (length plain) count_room >>= λ _. Ok found)
 
-  both : (plain : List ℕ) → search_text bytes Phrase text ends id_room ≡ ok plain → Both plain
+  both : (plain : List ℕ) → search_text bytes Phrase text ends id_room ≡ Ok plain → Both plain
   unfolding search_text search
   both plain e =
       let (_, c, f) = bind_gives (check_question text ends) _ e in
@@ -203,7 +204,7 @@ module _ (bytes text ends : List ℕ) (id_room count_room : ℕ) where
       let (t, k) = check_gives (leb (length js) id_room) _ _ h in
       let same : js ≡ plain = ok_same k in
       let r = opened_rises bytes o in
-      let (found, b, sides) = beside s ns r (answers s Phrase ns) (ranked_answers s ns) (answers_alike s ns r) (a ∙ ap ok same) in
+      let (found, b, sides) = beside s ns r (answers s Phrase ns) (ranked_answers s ns) (answers_alike s ns r) (a ∙ ap Ok same) in
       let fits : leb (length plain) id_room ≡ true = rw same at t in
       record {
         segment = s;

@@ -1,5 +1,7 @@
 -- A name's column by characters, and a listing as a text in UTF-8.
 -- Assumes nothing.
+use Rattle.segment.specs.Refusals.{numbers}
+use Rattle.std.specs.Prelude.{Err, Ok}
 use mathlib.Core.Path.{◌≡◌, refl, ap, ◌∙◌}
 use mathlib.Core.List.{List, [], ◌∷◌, ◌++◌, map}
 use mathlib.Core.Bool.{Bool, true, false, cond, ◌||◌}
@@ -12,7 +14,7 @@ use borrow.Author.Tests.{lt-ltb, le-ltb}
 use Rattle.common.proofs.Loops.{lt_or_ge}
 use Rattle.utf8.specs.Utf8.{Scalar, Scalars, octets, text, IsUtf8, decoded}
 use Rattle.utf8.proofs.Decoded.{decodes, decodes_front, text_append, scalars_append, scalars_take, is_utf8_append, is_utf8_cons}
-use Rattle.segment.specs.Results.{Result, ok, refuse}
+use Rattle.segment.specs.Results.{Answer}
 use Rattle.segment.specs.Records.{Document, Entry, Segment}
 use Rattle.calls.specs.Listing.{digits, column, shown, fitted, name_column, count_line, document_line, entry_line, document_lines}
 use Rattle.calls.specs.Listing.{entry_lines, refusal_line, text_of, listable, listing}
@@ -108,14 +110,14 @@ entries_utf8 [] = nothing
 entries_utf8 (e ∷ es) =
     is_utf8_append _ _ (line_utf8 _ (is_utf8_append _ _ (column_utf8 16 e.name) (number_utf8 e.df))) (entries_utf8 es)
 
-text_utf8 : (r : Result Segment) → IsUtf8 (text_of r)
+text_utf8 : (r : Answer Segment) → IsUtf8 (text_of r)
 unfolding count_line refusal_line
-text_utf8 (ok s) =
+text_utf8 (Ok s) =
     is_utf8_append _ _
     (is_utf8_append _ _ (pair_utf8 (length s.documents) (length s.entries)) (documents_utf8 s.documents))
     (entries_utf8 s.entries)
-text_utf8 (refuse x) =
-    line_utf8 _ (is_utf8_append _ _ (is_utf8_append _ _ (number_utf8 x.kind) (number_utf8 x.which)) (number_utf8 x.index))
+text_utf8 (Err x) =
+    line_utf8 _ (is_utf8_append _ _ (is_utf8_append _ _ (number_utf8 (numbers x).kind) (number_utf8 (numbers x).which)) (number_utf8 (numbers x).index))
 
 pub listing_utf8 : claims.ListingUtf8
 unfolding listing

@@ -1,8 +1,8 @@
 -- How long the bytes of a section are, or are at most.
 -- Assumes nothing.
+use Rattle.std.specs.Prelude.{None, Option, Some}
 use mathlib.Core.Path.{◌≡◌, refl, ap}
 use mathlib.Core.List.{List, [], ◌∷◌, ◌++◌, map}
-use mathlib.Core.Option.{Option, none, some}
 use Prim.Native.Nat.{ℕ, ◌+◌, ◌*◌, ◌≤◌}
 use native.Mathlib.Nat.{zero-add}
 use native.Mathlib.Omega.{arith}
@@ -33,12 +33,12 @@ unfolding metadata_bytes
 metadata_size previous [] = omega arith
 metadata_size previous (d ∷ ds) =
     simp length-append
-    (omega (arith, encoded_size (gap previous d.id), encoded_size d.len, metadata_size (some d.id) ds))
+    (omega (arith, encoded_size (gap previous d.id), encoded_size d.len, metadata_size (Some d.id) ds))
 
 pub positions_size : (previous : Option ℕ) (ps : List ℕ) → length (position_bytes previous ps) ≤ 5 * length ps
 unfolding position_bytes
 positions_size previous [] = omega arith
-positions_size previous (p ∷ ps) = simp length-append (omega (arith, encoded_size (gap previous p), positions_size (some p) ps))
+positions_size previous (p ∷ ps) = simp length-append (omega (arith, encoded_size (gap previous p), positions_size (Some p) ps))
 
 postings_size : (previous : Option ℕ) (ps : List Posting) → length (postings_bytes previous ps) ≤ 10 * length ps + 5 * total_positions ps
 unfolding postings_bytes posting_bytes total_positions
@@ -49,8 +49,8 @@ postings_size previous (p ∷ ps) =
       arith,
       encoded_size (gap previous p.doc),
       encoded_size (length p.positions),
-      positions_size none p.positions,
-      postings_size (some p.doc) ps,
+      positions_size None p.positions,
+      postings_size (Some p.doc) ps,
     ))
 
 -- all positions of postings, as they are counted
@@ -69,7 +69,7 @@ lists_size : (ts : List Term) → length (lists_bytes ts) ≤ 10 * length (posti
 unfolding lists_bytes
 lists_size [] = omega arith
 lists_size (t ∷ ts) =
-    simp length-append (omega (arith, postings_size none t.postings, lists_size ts, total_is t.postings (postings_of ts)))
+    simp length-append (omega (arith, postings_size None t.postings, lists_size ts, total_is t.postings (postings_of ts)))
 
 -- all lists of what was handed in
 pub lists_small : (l : Lists) → Small l → Shape l → length (lists_bytes (given l).terms) ≤ 251658240
@@ -90,8 +90,8 @@ paired_size f [] ys = omega arith
 paired_size f (x ∷ xs) [] = omega arith
 paired_size f (x ∷ xs) (y ∷ ys) = omega (arith, paired_size f xs ys)
 
-pub flat_metadata_size : (ids lengths : List ℕ) → length (metadata_bytes none (paired document ids lengths)) ≤ 10 * length ids
-flat_metadata_size ids lengths = omega (arith, metadata_size none (paired document ids lengths), paired_size document ids lengths)
+pub flat_metadata_size : (ids lengths : List ℕ) → length (metadata_bytes None (paired document ids lengths)) ≤ 10 * length ids
+flat_metadata_size ids lengths = omega (arith, metadata_size None (paired document ids lengths), paired_size document ids lengths)
 
 pub flat_postings_size : (previous : Option ℕ) (ids counts positions : List ℕ)
     → length (postings_bytes previous (postings_in ids counts positions)) ≤ 10 * length counts + 5 * length positions
@@ -104,8 +104,8 @@ flat_postings_size previous (d ∷ ds) (c ∷ cs) positions =
       arith,
       encoded_size (gap previous d),
       encoded_size (length (take c positions)),
-      positions_size none (take c positions),
-      flat_postings_size (some d) ds cs (drop c positions),
+      positions_size None (take c positions),
+      flat_postings_size (Some d) ds cs (drop c positions),
       length-append (take c positions) (drop c positions),
       ap length (take-append-drop c positions),
     ))

@@ -1,14 +1,13 @@
 -- A document's own positions rise, in every list that decodes.
 -- Assumes nothing.
+use Rattle.std.specs.Prelude.{None, Ok, Option, Some}
 use mathlib.Core.Path.{◌≡◌, refl}
 use mathlib.Core.Bool.{Bool, true, false, cond}
 use mathlib.Core.List.{List, [], ◌∷◌}
 use mathlib.Core.Logic.{inl, inr}
-use mathlib.Core.Option.{Option, none, some}
 use Prim.Native.Nat.{ℕ}
 use lib.Dec.{eqb}
 use Rattle.common.specs.Elements.{◌∈◌, Rising}
-use Rattle.segment.specs.Results.{ok}
 use Rattle.segment.specs.Records.{Posting, Entry, Segment}
 use Rattle.segment.specs.Directory.{entry_of}
 use Rattle.segment.proofs.Binds.{ok_same}
@@ -24,10 +23,10 @@ own_rises (p ∷ ps) h d = step (eqb p.doc d) (own_rises ps (λ q m. h q (inr m)
     step true later = h p (inl refl)
     step false later = later
 
-pub named_rises : (s : Segment) (name : List ℕ) {ps : List Posting} → postings_of s name ≡ ok ps → (d : ℕ) → Rising (positions_of ps d)
+pub named_rises : (s : Segment) (name : List ℕ) {ps : List Posting} → postings_of s name ≡ Ok ps → (d : ℕ) → Rising (positions_of ps d)
 unfolding postings_of
 named_rises s name {ps} e d = step (entry_of s.entries name) e
   where
-    step : (o : Option Entry) → found s.documents o ≡ ok ps → Rising (positions_of ps d)
-    step none is = rw (← ok_same is) (own_rises [] (λ p m. absurd m) d)
-    step (some entry) is = own_rises ps (decoded_rises s.documents entry is).1 d
+    step : (o : Option Entry) → found s.documents o ≡ Ok ps → Rising (positions_of ps d)
+    step None is = rw (← ok_same is) (own_rises [] (λ p m. absurd m) d)
+    step (Some entry) is = own_rises ps (decoded_rises s.documents entry is).1 d

@@ -1,11 +1,10 @@
 -- The checks pass exactly where document 01 names no refusal but for the room.
 -- Assumes nothing.
+use Rattle.std.specs.Prelude.{None, Ok}
 use mathlib.Core.Path.{◌≡◌}
 use mathlib.Core.Bool.{true}
-use mathlib.Core.Option.{none}
 use borrow.Author.Tests.{leb-true, le-leb, eqb-true, eq-eqb}
 use Rattle.common.proofs.Loops.{and_left, and_right}
-use Rattle.segment.specs.Results.{ok}
 use Rattle.calls.specs.Given.{Lists, given}
 use Rattle.calls.specs.Checks.{small, shaped, check_documents, check_given, check_lists}
 use Rattle.calls.specs.Acceptance.{Small, Shape, ListsFine}
@@ -67,29 +66,29 @@ shaped_from l s =
 
 -- ---- all checks
 
-gives : (l : Lists) → check_lists l ≡ ok tt → ListsFine l
+gives : (l : Lists) → check_lists l ≡ Ok tt → ListsFine l
 unfolding check_lists check_given
 gives l e =
     let r₁ = check_gives (small l) _ _ e in
     let r₂ = check_gives (shaped l) _ _ r₁.1 in
-    let r₃ = bind_gives (check_documents none (given l).documents) _ r₂.1 in
-    let terms = terms_give (given l).documents none (given l).terms r₃.2 in
+    let r₃ = bind_gives (check_documents None (given l).documents) _ r₂.1 in
+    let terms = terms_give (given l).documents None (given l).terms r₃.2 in
     record {
       small = small_gives l r₁.0;
       shape = shaped_gives l r₂.0;
-      documents_rise = documents_give none (given l).documents r₃.1;
+      documents_rise = documents_give None (given l).documents r₃.1;
       names_rise = terms.0;
       each = terms.1;
     }
 
-from : (l : Lists) → ListsFine l → check_lists l ≡ ok tt
+from : (l : Lists) → ListsFine l → check_lists l ≡ Ok tt
 unfolding check_lists check_given
 from l n =
     rw (
       small_from l n.small,
       shaped_from l n.shape,
-      documents_from none (given l).documents n.documents_rise,
-      terms_from (given l).documents n.documents_rise none (given l).terms n.names_rise n.each,
+      documents_from None (given l).documents n.documents_rise,
+      terms_from (given l).documents n.documents_rise None (given l).terms n.names_rise n.each,
     )
 
 pub checks_exactly : ChecksExactly

@@ -1,8 +1,8 @@
 -- How long a segment of what is handed in is: the number that document 01's format gives.
 -- Assumes nothing.
+use Rattle.std.specs.Prelude.{None, Option, Some}
 use mathlib.Core.Path.{◌≡◌, refl}
 use mathlib.Core.List.{List, [], ◌∷◌}
-use mathlib.Core.Option.{Option, none, some}
 use mathlib.Core.Bool.{Bool, true, false, cond}
 use Prim.Native.Nat.{ℕ, zero, suc, ◌+◌, ◌*◌, ◌/◌, ◌%◌, ◌≤◌}
 use lib.Dec.{ltb}
@@ -21,18 +21,18 @@ use Rattle.calls.specs.Sizes.{number_size, documents_size, positions_size, posti
 documents_length : (previous : Option ℕ) (ds : List Document) → length (metadata_bytes previous ds) ≡ documents_size previous ds
 unfolding metadata_bytes documents_size
 documents_length previous [] = refl
-documents_length previous (d ∷ ds) = simp length-append (omega (arith, documents_length (some d.id) ds))
+documents_length previous (d ∷ ds) = simp length-append (omega (arith, documents_length (Some d.id) ds))
 
 positions_length : (previous : Option ℕ) (ps : List ℕ) → length (position_bytes previous ps) ≡ positions_size previous ps
 unfolding position_bytes positions_size
 positions_length previous [] = refl
-positions_length previous (p ∷ ps) = simp length-append (omega (arith, positions_length (some p) ps))
+positions_length previous (p ∷ ps) = simp length-append (omega (arith, positions_length (Some p) ps))
 
 postings_length : (previous : Option ℕ) (ps : List Posting) → length (postings_bytes previous ps) ≡ postings_size previous ps
 unfolding postings_bytes posting_bytes postings_size
 postings_length previous [] = refl
 postings_length previous (p ∷ ps) =
-    simp length-append (omega (arith, positions_length none p.positions, postings_length (some p.doc) ps))
+    simp length-append (omega (arith, positions_length None p.positions, postings_length (Some p.doc) ps))
 
 -- the three sections that grow with the terms
 terms_length : (ts : List Term) (name_at list_at : ℕ)
@@ -45,14 +45,14 @@ terms_length (t ∷ ts) name_at list_at =
       arith,
       directory_length (t ∷ ts) name_at list_at,
       directory_length ts 0 0,
-      postings_length none t.postings,
+      postings_length None t.postings,
       terms_length ts 0 0,
     ))
 
 pub segment_length : (l : Lists) → length (segment_bytes (given l)) ≡ segment_size l
 unfolding segment_bytes
 segment_length l =
-    simp length-append (omega (arith, terms_length (given l).terms 0 0, documents_length none (given l).documents))
+    simp length-append (omega (arith, terms_length (given l).terms 0 0, documents_length None (given l).documents))
 
 -- ---- how many bytes a posting takes
 
@@ -75,7 +75,7 @@ unfolding positions_size
 positions_take previous [] = (omega arith, omega arith)
 positions_take previous (p ∷ ps) =
     let n = one_to_five (gap previous p) in
-    let more = positions_take (some p) ps in
+    let more = positions_take (Some p) ps in
     (omega (arith, n, more), omega (arith, n, more))
 
 pub posting_takes : PostingTakes
@@ -83,5 +83,5 @@ unfolding postings_size
 posting_takes previous p =
     let d = one_to_five (gap previous p.doc) in
     let k = one_to_five (length p.positions) in
-    let ps = positions_take none p.positions in
+    let ps = positions_take None p.positions in
     (omega (arith, d, k, ps), omega (arith, d, k, ps))

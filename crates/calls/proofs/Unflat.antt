@@ -9,9 +9,8 @@ use lib.Seq.{take-append_seam, drop-append_seam}
 use Rattle.segment.specs.Records.{Posting, Term, Given}
 use Rattle.segment.specs.Metadata.{document}
 use Rattle.segment.specs.Texts.{names}
-use Rattle.common.specs.Lists.{paired}
+use Rattle.common.specs.Lists.{paired, parts, total, joined}
 use Rattle.calls.specs.Given.{given, posting, term, ends_from, laid_flat}
-use Rattle.common.specs.Lists.{parts, total, joined}
 use Rattle.common.proofs.Pairs.{paired_back}
 
 module _ {A B : Type 0} (f : B → List A) where

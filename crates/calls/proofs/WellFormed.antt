@@ -1,5 +1,6 @@
 -- A question passes its tests exactly where it is well-formed.
 -- Assumes nothing.
+use Rattle.std.specs.Prelude.{Ok}
 use mathlib.Core.Path.{◌≡◌, refl}
 use mathlib.Core.Bool.{true, ◌&&◌}
 use mathlib.Core.List.{List, [], ◌∷◌}
@@ -11,9 +12,7 @@ use borrow.Author.Tests.{leb-true, le-leb}
 use Rattle.utf8.specs.Utf8.{IsUtf8, utf8}
 use Rattle.common.proofs.Loops.{and_left, and_right}
 use Rattle.utf8.proofs.Text.{grammar_agrees}
-use Rattle.segment.specs.declared.checked.Checked.TheVariants.{Passed}
 use Rattle.segment.specs.Refusals.{too_large, list_shape, invalid_utf8}
-use Rattle.segment.specs.Results.{ok}
 use Rattle.segment.specs.Steps.{checked}
 use Rattle.segment.specs.Texts.{ends_fit, names}
 use Rattle.common.specs.Elements.{◌∈◌}
@@ -22,18 +21,18 @@ use Rattle.calls.specs.Claims as claims
 use Rattle.segment.proofs.Shapes.{shape_is}
 use Rattle.segment.proofs.Accepted.{check_gives, passed_ok}
 
-names_each : (ns : List (List ℕ)) → check_names ns ≡ ok tt → (n : List ℕ) → n ∈ ns → IsUtf8 n
+names_each : (ns : List (List ℕ)) → check_names ns ≡ Ok tt → (n : List ℕ) → n ∈ ns → IsUtf8 n
 unfolding check_names
 names_each [] e n m = absurd m
 names_each (k ∷ ks) e n (inl q) = rw q ((grammar_agrees k).0 (check_gives (utf8 k) invalid_utf8 _ e).0)
 names_each (k ∷ ks) e n (inr m) = names_each ks (check_gives (utf8 k) invalid_utf8 _ e).1 n m
 
-names_all : (ns : List (List ℕ)) → ((n : List ℕ) → n ∈ ns → IsUtf8 n) → check_names ns ≡ ok tt
+names_all : (ns : List (List ℕ)) → ((n : List ℕ) → n ∈ ns → IsUtf8 n) → check_names ns ≡ Ok tt
 unfolding check_names
 names_all [] h = refl
 names_all (k ∷ ks) h = rw ((grammar_agrees k).1 (h k (inl refl))) (names_all ks (λ n m. h n (inr m)))
 
-pub names_pass : (ns : List (List ℕ)) → (check_names ns ≡ ok tt) ↔ ((n : List ℕ) → n ∈ ns → IsUtf8 n)
+pub names_pass : (ns : List (List ℕ)) → (check_names ns ≡ Ok tt) ↔ ((n : List ℕ) → n ∈ ns → IsUtf8 n)
 names_pass ns = (names_each ns, names_all ns)
 
 pub passes_exactly : claims.PassesExactly
@@ -75,7 +74,7 @@ two_pass_exactly a b = (
     both u v n (inr (inr x)) = elim x [ ]
 
 -- what the code goes by behind the checks
-pub text_fits : (text ends : List ℕ) → Passed ≡ checked (check_question text ends)
+pub text_fits : (text ends : List ℕ) → (Ok tt) ≡ checked (check_question text ends)
     → (ends_fit 0 ends (length text) ≡ true) × (length ends ≤ 128)
 text_fits text ends passed =
     let w = (passes_exactly text ends).0 (passed_ok (check_question text ends) passed).1 in

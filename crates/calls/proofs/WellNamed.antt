@@ -1,5 +1,6 @@
 -- A questioned name passes exactly when it is small and UTF-8.
 -- Assumes nothing.
+use Rattle.std.specs.Prelude.{Ok}
 use mathlib.Core.Path.{◌≡◌, refl}
 use mathlib.Core.Bool.{Bool, true, false}
 use lib.Dec.{leb}
@@ -7,14 +8,14 @@ use lib.ListN.{length}
 use borrow.Author.Tests.{leb-true, le-leb}
 use Rattle.utf8.specs.Utf8.{utf8}
 use Rattle.utf8.proofs.Text.{grammar_agrees}
-use Rattle.segment.specs.Results.{ok, check}
+use Rattle.segment.specs.Results.{check}
 use Rattle.segment.specs.Refusals.{invalid_utf8}
 use Rattle.segment.proofs.Binds.{refuse_ok}
 use Rattle.segment.proofs.Accepted.{check_gives}
 use Rattle.calls.specs.Lookups.{well_named}
 use Rattle.calls.specs.Claims.{WellNamedExactly}
 
-passed : (t : Bool) → check t invalid_utf8 ≡ ok tt → t ≡ true
+passed : (t : Bool) → check t invalid_utf8 ≡ Ok tt → t ≡ true
 passed true e = refl
 passed false e = refuse_ok e
 

@@ -1,13 +1,12 @@
 -- The writer's checks in document 01's order: kinds 12, 11; document order; per term UTF-8, empty, order, no postings; per posting
 -- unknown document, underflow, order, no positions; per position underflow, order, length.
-use Rattle.std.specs.Prelude.{ℕ, Bool, true, ◌&&◌, List, [], ◌∷◌, ltb, leb, eqb, length}
-use Rattle.std.proofs.Math.Option.{Option, none, some}
+use Rattle.std.specs.Prelude.{None, Ok, Option, Some, ℕ, Bool, true, ◌&&◌, List, [], ◌∷◌, ltb, leb, eqb, length}
 use Rattle.utf8.specs.Utf8.{utf8}
 use Rattle.segment.specs.Refusals.{too_large, list_shape, invalid_utf8, invalid_layout, empty_term, empty_term_posting_list}
 use Rattle.segment.specs.Refusals.{empty_position_list, document_lengths_not_increasing, terms_not_increasing, posting_id_gap_underflow}
 use Rattle.segment.specs.Refusals.{posting_ids_not_increasing, position_gap_underflow, positions_not_increasing}
 use Rattle.segment.specs.Refusals.{written_position_exceeds_length}
-use Rattle.segment.specs.Results.{Result, ok, ◌>>=◌, check}
+use Rattle.segment.specs.Results.{Answer, ◌>>=◌, check}
 use Rattle.segment.specs.Records.{Document, Posting, Term, rises, Given}
 use Rattle.segment.specs.Metadata.{length_of}
 use Rattle.segment.specs.Directory.{follows}
@@ -40,61 +39,61 @@ shaped l =
 
 -- not below the one before
 abbrev pub reaches : Option ℕ → ℕ → Bool
-reaches none v = true
-reaches (some p) v = leb p v
+reaches None v = true
+reaches (Some p) v = leb p v
 
-unfoldable pub check_documents : (previous : Option ℕ) → List Document → Result (Unit {0})
-check_documents previous [] = ok tt
+unfoldable pub check_documents : (previous : Option ℕ) → List Document → Answer (Unit {0})
+check_documents previous [] = Ok tt
 check_documents previous (d ∷ ds) = do
   _ ← check (rises previous d.id) (invalid_layout document_lengths_not_increasing)
-  check_documents (some d.id) ds
+  check_documents (Some d.id) ds
 
-unfoldable pub position_checks : (len : ℕ) (previous : Option ℕ) (p : ℕ) → Result (Unit {0})
+unfoldable pub position_checks : (len : ℕ) (previous : Option ℕ) (p : ℕ) → Answer (Unit {0})
 position_checks len previous p = do
   _ ← check (reaches previous p) (invalid_layout position_gap_underflow)
   _ ← check (rises previous p) (invalid_layout positions_not_increasing)
   check (ltb p len) (invalid_layout written_position_exceeds_length)
 
-unfoldable pub check_positions : (len : ℕ) (previous : Option ℕ) → List ℕ → Result (Unit {0})
-check_positions len previous [] = ok tt
+unfoldable pub check_positions : (len : ℕ) (previous : Option ℕ) → List ℕ → Answer (Unit {0})
+check_positions len previous [] = Ok tt
 check_positions len previous (p ∷ ps) = do
   _ ← position_checks len previous p
-  check_positions len (some p) ps
+  check_positions len (Some p) ps
 
-unfoldable pub check_posting : (documents : List Document) (previous : Option ℕ) → Posting → Result (Unit {0})
+unfoldable pub check_posting : (documents : List Document) (previous : Option ℕ) → Posting → Answer (Unit {0})
 check_posting documents previous p = do
   len ← known (length_of documents p.doc)
   _ ← check (reaches previous p.doc) (invalid_layout posting_id_gap_underflow)
   _ ← check (rises previous p.doc) (invalid_layout posting_ids_not_increasing)
   _ ← check (ltb 0 (length p.positions)) (invalid_layout empty_position_list)
-  check_positions len none p.positions
+  check_positions len None p.positions
 
-unfoldable pub check_postings : (documents : List Document) (previous : Option ℕ) → List Posting → Result (Unit {0})
-check_postings documents previous [] = ok tt
+unfoldable pub check_postings : (documents : List Document) (previous : Option ℕ) → List Posting → Answer (Unit {0})
+check_postings documents previous [] = Ok tt
 check_postings documents previous (p ∷ ps) = do
   _ ← check_posting documents previous p
-  check_postings documents (some p.doc) ps
+  check_postings documents (Some p.doc) ps
 
-unfoldable pub check_name : (previous : Option (List ℕ)) (name : List ℕ) → Result (Unit {0})
+unfoldable pub check_name : (previous : Option (List ℕ)) (name : List ℕ) → Answer (Unit {0})
 check_name previous name = do
   _ ← check (utf8 name) invalid_utf8
   _ ← check (ltb 0 (length name)) (invalid_layout empty_term)
   check (follows previous name) (invalid_layout terms_not_increasing)
 
-unfoldable pub check_terms : (documents : List Document) (previous : Option (List ℕ)) → List Term → Result (Unit {0})
-check_terms documents previous [] = ok tt
+unfoldable pub check_terms : (documents : List Document) (previous : Option (List ℕ)) → List Term → Answer (Unit {0})
+check_terms documents previous [] = Ok tt
 check_terms documents previous (t ∷ ts) = do
   _ ← check_name previous t.name
   _ ← check (ltb 0 (length t.postings)) (invalid_layout empty_term_posting_list)
-  _ ← check_postings documents none t.postings
-  check_terms documents (some t.name) ts
+  _ ← check_postings documents None t.postings
+  check_terms documents (Some t.name) ts
 
-unfoldable pub check_given : Given → Result (Unit {0})
+unfoldable pub check_given : Given → Answer (Unit {0})
 check_given g = do
-  _ ← check_documents none g.documents
-  check_terms g.documents none g.terms
+  _ ← check_documents None g.documents
+  check_terms g.documents None g.terms
 
-unfoldable pub check_lists : Lists → Result (Unit {0})
+unfoldable pub check_lists : Lists → Answer (Unit {0})
 check_lists l = do
   _ ← check (small l) too_large
   _ ← check (shaped l) list_shape

@@ -1,12 +1,11 @@
 -- What is claimed of the definitions: each test is the same as its words, and so is a name's column. Proved in proofs/: WellNamed,
 -- WellFormed, Whole, Passing, Accepts, Sizes, Characters, Ordered, Ranks, Beside.
+use Rattle.std.specs.Prelude.{Err, Ok, Option}
 use Rattle.std.specs.Prelude.{ℕ, ◌+◌, ◌-◌, ◌*◌, ◌≤◌, ◌<◌, ◌≡◌, true, false, List, [], ◌∷◌, ◌++◌, map, ◌↔◌, length, take, replicate, get_or}
-use Rattle.std.proofs.Math.Option.{Option}
 use Rattle.common.specs.Elements.{◌∈◌}
 use Rattle.utf8.specs.Utf8.{Scalars, text, IsUtf8, decoded}
 use Rattle.segment.specs.declared.refusal.Refusal.{Refusal}
 use Rattle.segment.specs.Refusals.{no_room}
-use Rattle.segment.specs.Results.{ok, refuse}
 use Rattle.segment.specs.Texts.{names}
 use Rattle.segment.specs.Opening.{open_segment}
 use Rattle.rules.specs.declared.rule.Rule.TheVariants.{Phrase}
@@ -26,28 +25,28 @@ use Rattle.segment.specs.Records.{Posting, Segment}
 
 -- a questioned name passes exactly when it has at most 16,777,216 bytes and is UTF-8
 abbrev pub WellNamedExactly : Type 0
-WellNamedExactly = (name : List ℕ) → (well_named name ≡ ok tt) ↔ ((length name ≤ 16777216) × IsUtf8 name)
+WellNamedExactly = (name : List ℕ) → (well_named name ≡ Ok tt) ↔ ((length name ≤ 16777216) × IsUtf8 name)
 
 -- kinds 12, 11 and 10 refuse exactly the questions that are not well-formed
 abbrev pub PassesExactly : Type 0
-PassesExactly = (text ends : List ℕ) → (check_question text ends ≡ ok tt) ↔ WellFormed text ends
+PassesExactly = (text ends : List ℕ) → (check_question text ends ≡ Ok tt) ↔ WellFormed text ends
 
 -- two names pass exactly when each has at most 16,777,216 bytes and is UTF-8
 abbrev pub TwoPassExactly : Type 0
 TwoPassExactly =
-    (a b : List ℕ) → (two_checks a b ≡ ok tt) ↔ ((length a ≤ 16777216) × (length b ≤ 16777216) × IsUtf8 a × IsUtf8 b)
+    (a b : List ℕ) → (two_checks a b ≡ Ok tt) ↔ ((length a ≤ 16777216) × (length b ≤ 16777216) × IsUtf8 a × IsUtf8 b)
 
 -- a segment is read whole exactly when it opens and every list of its directory decodes
 abbrev pub WholeExactly : Type 0
-WholeExactly = (bytes : List ℕ) (s : Segment) → (whole_segment bytes ≡ ok s) ↔ Whole bytes s
+WholeExactly = (bytes : List ℕ) (s : Segment) → (whole_segment bytes ≡ Ok s) ↔ Whole bytes s
 
 -- the writer's checks pass exactly what document 01 names no refusal for, apart from the room
 abbrev pub ChecksExactly : Type 0
-ChecksExactly = (l : Lists) → (check_lists l ≡ ok tt) ↔ ListsFine l
+ChecksExactly = (l : Lists) → (check_lists l ≡ Ok tt) ↔ ListsFine l
 
 -- the writer accepts exactly what document 01 names no refusal for
 abbrev pub AcceptsExactly : Type 0
-AcceptsExactly = (l : Lists) (room : ℕ) → ((bytes : List ℕ) × (write l room ≡ ok bytes)) ↔ Writable l room
+AcceptsExactly = (l : Lists) (room : ℕ) → ((bytes : List ℕ) × (write l room ≡ Ok bytes)) ↔ Writable l room
 
 -- document 01: k positions with their id and count take k + 2 to 5k + 10 bytes
 abbrev pub PostingTakes : Type 0
@@ -101,18 +100,18 @@ RankingOnly =
 -- documents' own positions of the names, in a segment
 pub record OwnIn (bytes : List ℕ) (ns : List (List ℕ)) (own : ℕ → List ℕ → List ℕ) : Type 0 where
   pub segment : Segment
-  pub opens : open_segment bytes ≡ ok segment
-  pub positions : (n : List ℕ) → n ∈ ns → (ps : List Posting) × (postings_of segment n ≡ ok ps) × ((d : ℕ) → own d n ≡ positions_of ps d)
+  pub opens : open_segment bytes ≡ Ok segment
+  pub positions : (n : List ℕ) → n ∈ ns → (ps : List Posting) × (postings_of segment n ≡ Ok ps) × ((d : ℕ) → own d n ≡ positions_of ps d)
 
 -- with the same room for ids, the ranked search refuses what the plain search refuses, with its refusal; what the plain search answers it
 -- refuses for want of room for the counts alone; else it answers, ranked
 pub record BesidePlain (bytes text ends : List ℕ) (id_room count_room : ℕ) : Type 0 where
-  pub refused : (x : Refusal) → search_text bytes Phrase text ends id_room ≡ refuse x
-      → search_ranked bytes text ends id_room count_room ≡ refuse x
-  pub no_counts : (ids : List ℕ) → search_text bytes Phrase text ends id_room ≡ ok ids → count_room < length ids
-      → search_ranked bytes text ends id_room count_room ≡ refuse (no_room 2 (length ids))
-  pub answered : (ids : List ℕ) → search_text bytes Phrase text ends id_room ≡ ok ids → length ids ≤ count_room
-      → (found : List Match) × (own : ℕ → List ℕ → List ℕ) × (search_ranked bytes text ends id_room count_room ≡ ok found)
+  pub refused : (x : Refusal) → search_text bytes Phrase text ends id_room ≡ Err x
+      → search_ranked bytes text ends id_room count_room ≡ Err x
+  pub no_counts : (ids : List ℕ) → search_text bytes Phrase text ends id_room ≡ Ok ids → count_room < length ids
+      → search_ranked bytes text ends id_room count_room ≡ Err (no_room 2 (length ids))
+  pub answered : (ids : List ℕ) → search_text bytes Phrase text ends id_room ≡ Ok ids → length ids ≤ count_room
+      → (found : List Match) × (own : ℕ → List ℕ → List ℕ) × (search_ranked bytes text ends id_room count_room ≡ Ok found)
       × OwnIn bytes (names 0 ends text) own × Ranking ids own (names 0 ends text) found
 
 abbrev pub RankedBeside : Type 0

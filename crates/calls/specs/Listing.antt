@@ -1,11 +1,12 @@
 -- The listing (document 01): first line the counts of documents and terms; then id and length per document; then per term, in directory
 -- order, its name, cut or padded with spaces to 16 characters (document 02, wish 1), and df. Numbers are right-justified in 10 columns;
 -- every line ends with a line feed. A refusal prints one line, its three numbers, and nothing else.
+use Rattle.std.specs.Prelude.{Err, Ok}
 use Rattle.std.specs.Prelude.{ℕ, zero, suc, ◌+◌, ◌-◌, ◌/◌, ◌%◌, cond, ◌||◌, List, [], ◌∷◌, ◌++◌, map, ltb, leb, eqb, length, take, replicate}
 use Rattle.utf8.specs.Utf8.{text, decoded}
 use Rattle.segment.specs.declared.refusal.Refusal.{Refusal}
-use Rattle.segment.specs.Refusals.{too_large}
-use Rattle.segment.specs.Results.{Result, ok, refuse, ◌>>=◌, check, roomy}
+use Rattle.segment.specs.Refusals.{numbers, too_large}
+use Rattle.segment.specs.Results.{Answer, ◌>>=◌, check, roomy}
 use Rattle.segment.specs.Records.{Document, Entry, Segment}
 use Rattle.segment.specs.Opening.{open_segment}
 
@@ -50,14 +51,14 @@ entry_lines [] = []
 entry_lines (e ∷ es) = entry_line e ++ entry_lines es
 
 unfoldable pub refusal_line : Refusal → List ℕ
-refusal_line x = column x.kind ++ column x.which ++ column x.index ++ 10 ∷ []
+refusal_line x = column (numbers x).kind ++ column (numbers x).which ++ column (numbers x).index ++ 10 ∷ []
 
-abbrev pub text_of : Result Segment → List ℕ
-text_of (ok s) = count_line s ++ document_lines s.documents ++ entry_lines s.entries
-text_of (refuse x) = refusal_line x
+abbrev pub text_of : Answer Segment → List ℕ
+text_of (Ok s) = count_line s ++ document_lines s.documents ++ entry_lines s.entries
+text_of (Err x) = refusal_line x
 
 -- a segment of at most 65,536 bytes
-unfoldable pub listable : List ℕ → Result Segment
+unfoldable pub listable : List ℕ → Answer Segment
 listable bytes = do
   _ ← check (leb (length bytes) 65536) too_large
   open_segment bytes
@@ -66,7 +67,7 @@ unfoldable pub listing : List ℕ → List ℕ
 listing bytes = text_of (listable bytes)
 
 -- the text, or 13 where the slice is too short for it; `room` is how many places it has
-unfoldable pub list_into : (bytes : List ℕ) (room : ℕ) → Result (List ℕ)
+unfoldable pub list_into : (bytes : List ℕ) (room : ℕ) → Answer (List ℕ)
 list_into bytes room = do
   _ ← roomy 1 (length (listing bytes)) room
-  ok (listing bytes)
+  Ok (listing bytes)

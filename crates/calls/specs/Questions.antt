@@ -1,10 +1,10 @@
 -- The calls that ask (document 01, "The search"): kinds 12, 11 and 10; then the segment is opened, every different name decoded in the
 -- order named, the answer found; last 13.
-use Rattle.std.specs.Prelude.{ℕ, ◌≤◌, ◌&&◌, cond, List, [], ◌∷◌, map, leb, length}
+use Rattle.std.specs.Prelude.{Ok, ℕ, ◌≤◌, ◌&&◌, cond, List, [], ◌∷◌, map, leb, length}
 use Rattle.common.specs.Elements.{◌∈◌}
 use Rattle.utf8.specs.Utf8.{utf8, IsUtf8}
 use Rattle.segment.specs.Refusals.{too_large, list_shape, invalid_utf8}
-use Rattle.segment.specs.Results.{Result, ok, check, roomy, ◌>>=◌}
+use Rattle.segment.specs.Results.{Answer, check, roomy, ◌>>=◌}
 use Rattle.segment.specs.Texts.{ends_fit, names, TextShape}
 use Rattle.segment.specs.Records.{Posting, Term, Segment, Document}
 use Rattle.segment.specs.Names.{same}
@@ -18,13 +18,13 @@ use Rattle.rules.specs.Different.{different}
 
 -- ---- the checks of a question
 
-unfoldable pub check_names : List (List ℕ) → Result (Unit {0})
-check_names [] = ok tt
+unfoldable pub check_names : List (List ℕ) → Answer (Unit {0})
+check_names [] = Ok tt
 check_names (n ∷ ns) = do
   _ ← check (utf8 n) invalid_utf8
   check_names ns
 
-unfoldable pub check_question : (text ends : List ℕ) → Result (Unit {0})
+unfoldable pub check_question : (text ends : List ℕ) → Answer (Unit {0})
 check_question text ends = do
   _ ← check (leb (length text) 16777216 && leb (length ends) 128) too_large
   _ ← check (ends_fit 0 ends (length text)) list_shape
@@ -39,7 +39,7 @@ pub record WellFormed (text ends : List ℕ) : Type 0 where
   pub each : (n : List ℕ) → n ∈ names 0 ends text → IsUtf8 n
 
 -- kinds 12 and 10 of two names
-unfoldable pub two_checks : (a b : List ℕ) → Result (Unit {0})
+unfoldable pub two_checks : (a b : List ℕ) → Answer (Unit {0})
 two_checks a b = do
   _ ← check (leb (length a) 16777216 && leb (length b) 16777216) too_large
   check_names (a ∷ b ∷ [])
@@ -47,12 +47,12 @@ two_checks a b = do
 -- ---- the names in a segment
 
 -- each of the names decoded; the first failing one's refusal stands
-unfoldable pub decode_names : Segment → List (List ℕ) → Result (List Term)
-decode_names s [] = ok []
+unfoldable pub decode_names : Segment → List (List ℕ) → Answer (List Term)
+decode_names s [] = Ok []
 decode_names s (n ∷ ns) = do
   ps ← postings_of s n
   more ← decode_names s ns
-  ok (record { name = n; postings = ps } ∷ more)
+  Ok (record { name = n; postings = ps } ∷ more)
 
 -- the postings under a name; none where there is none
 unfoldable pub under : List Term → (name : List ℕ) → List Posting
@@ -69,29 +69,29 @@ decoded_positions ts d n = positions_of (under ts n) d
 unfoldable pub answer : Rule → List (List ℕ) → List Document → List Term → List ℕ
 answer rule ns documents ts = map (λ d. d.id) (kept (λ d. meets rule (decoded_positions ts d.id) ns) documents)
 
-unfoldable pub answers : Segment → Rule → List (List ℕ) → Result (List ℕ)
+unfoldable pub answers : Segment → Rule → List (List ℕ) → Answer (List ℕ)
 answers s rule ns =
-    let asked = decode_names s (different ns) >>= λ ts. ok (answer rule ns s.documents ts) in
-    cond (idle rule (length ns)) (ok []) asked
+    let asked = decode_names s (different ns) >>= λ ts. Ok (answer rule ns s.documents ts) in
+    cond (idle rule (length ns)) (Ok []) asked
 
 -- names that passed their tests, put to the bytes of a segment; `room` is how many places are lent for ids
-unfoldable pub search : (bytes : List ℕ) → Rule → List (List ℕ) → (room : ℕ) → Result (List ℕ)
+unfoldable pub search : (bytes : List ℕ) → Rule → List (List ℕ) → (room : ℕ) → Answer (List ℕ)
 search bytes rule ns room = do
   s ← open_segment bytes
   ids ← answers s rule ns
   _ ← roomy 1 (length ids) room
-  ok ids
+  Ok ids
 
 -- ---- the calls: kinds 12, 11 and 10 first
 
 -- phrase_match_strs and near_match_terms_strs: several names in one text
-unfoldable pub search_text : (bytes : List ℕ) → Rule → (text ends : List ℕ) (room : ℕ) → Result (List ℕ)
+unfoldable pub search_text : (bytes : List ℕ) → Rule → (text ends : List ℕ) (room : ℕ) → Answer (List ℕ)
 search_text bytes rule text ends room = do
   _ ← check_question text ends
   search bytes rule (names 0 ends text) room
 
 -- near_match: two names, in any order
-unfoldable pub search_two : (bytes : List ℕ) (window : ℕ) (a b : List ℕ) (room : ℕ) → Result (List ℕ)
+unfoldable pub search_two : (bytes : List ℕ) (window : ℕ) (a b : List ℕ) (room : ℕ) → Answer (List ℕ)
 search_two bytes window a b room = do
   _ ← two_checks a b
   search bytes (Unordered window) (a ∷ b ∷ []) room

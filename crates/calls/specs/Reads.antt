@@ -1,7 +1,6 @@
 -- The calls that read: what each answers, its tests in document 01's order. `room` is how many places a lent buffer has.
-use Rattle.std.specs.Prelude.{ℕ, List, map, [], ◌∷◌, ◌++◌, length}
-use Rattle.std.proofs.Math.Option.{Option, none, some}
-use Rattle.segment.specs.Results.{Result, ok, roomy, ◌>>=◌}
+use Rattle.std.specs.Prelude.{None, Ok, Option, Some, ℕ, List, map, [], ◌∷◌, ◌++◌, length}
+use Rattle.segment.specs.Results.{Answer, roomy, ◌>>=◌}
 use Rattle.segment.specs.Records.{Document, Posting, Entry}
 use Rattle.segment.specs.Metadata.{length_of}
 use Rattle.segment.specs.Opening.{open_segment}
@@ -12,63 +11,63 @@ use Rattle.segment.specs.Postings.{total_positions}
 -- ---- documents
 
 -- buffers in the order ids, lengths
-unfoldable pub document_lengths : (bytes : List ℕ) (room₁ room₂ : ℕ) → Result (List Document)
+unfoldable pub document_lengths : (bytes : List ℕ) (room₁ room₂ : ℕ) → Answer (List Document)
 document_lengths bytes room₁ room₂ = do
   s ← open_segment bytes
   _ ← roomy 1 (length s.documents) room₁
   _ ← roomy 2 (length s.documents) room₂
-  ok s.documents
+  Ok s.documents
 
 -- a document's length; none where the document is unknown
-unfoldable pub document_len : (bytes : List ℕ) (id : ℕ) → Result (Option ℕ)
+unfoldable pub document_len : (bytes : List ℕ) (id : ℕ) → Answer (Option ℕ)
 document_len bytes id = do
   s ← open_segment bytes
-  ok (length_of s.documents id)
+  Ok (length_of s.documents id)
 
 -- ---- terms and the documents that contain them
 
 -- the stored df; 0 for an unknown term
 abbrev pub frequency : Option Entry → ℕ
-frequency none = 0
-frequency (some e) = e.df
+frequency None = 0
+frequency (Some e) = e.df
 
 -- no list is decoded
-unfoldable pub df : (bytes name : List ℕ) → Result ℕ
+unfoldable pub df : (bytes name : List ℕ) → Answer ℕ
 df bytes name = do
   _ ← well_named name
   s ← open_segment bytes
-  ok (frequency (entry_of s.entries name))
+  Ok (frequency (entry_of s.entries name))
 
 -- a term's list, decoded
-unfoldable pub term_list : (bytes name : List ℕ) → Result (List Posting)
+unfoldable pub term_list : (bytes name : List ℕ) → Answer (List Posting)
 term_list bytes name = do
   _ ← well_named name
   s ← open_segment bytes
   postings_of s name
 
-unfoldable pub docs_with_term : (bytes name : List ℕ) (room : ℕ) → Result (List ℕ)
+unfoldable pub docs_with_term : (bytes name : List ℕ) (room : ℕ) → Answer (List ℕ)
 docs_with_term bytes name room = do
   ps ← term_list bytes name
   _ ← roomy 1 (length ps) room
-  ok (map (λ p. p.doc) ps)
+  Ok (map (λ p. p.doc) ps)
 
 -- ---- positions
 
 -- buffers in the order ids, counts, positions
-unfoldable pub term_postings : (bytes name : List ℕ) (room₁ room₂ room₃ : ℕ) → Result (List Posting)
+unfoldable pub term_postings : (bytes name : List ℕ) (room₁ room₂ room₃ : ℕ) → Answer (List Posting)
 term_postings bytes name room₁ room₂ room₃ = do
   ps ← term_list bytes name
   _ ← roomy 1 (length ps) room₁
   _ ← roomy 2 (length ps) room₂
   _ ← roomy 3 (total_positions ps) room₃
-  ok ps
+  Ok ps
 
 -- the whole list is decoded, whichever document is named
-unfoldable pub positions : (bytes name : List ℕ) (doc room : ℕ) → Result (List ℕ)
+unfoldable pub positions : (bytes name : List ℕ) (doc room : ℕ) → Answer (List ℕ)
 positions bytes name doc room = do
   ps ← term_list bytes name
   _ ← roomy 1 (length (positions_of ps doc)) room
-  ok (positions_of ps doc)
+  Ok (positions_of ps doc)
 
 -- all positions, posting after posting
 unfoldable pub joined_positions : List Posting → List ℕ

@@ -2,10 +2,9 @@
 -- columns each, then blanks; then comes a line for each sound of the bar, in directory order: its name, cut or padded to 12 characters, 64
 -- steps, and the number of hits, right-justified in 4 columns. A hit is o, another step of the bar a full stop, a step past its length
 -- blank.
-use Rattle.std.specs.Prelude.{ℕ, zero, suc, ◌-◌, cond, List, [], ◌∷◌, ◌++◌, ltb, leb, length, replicate}
-use Rattle.std.proofs.Math.Option.{Option, none, some}
+use Rattle.std.specs.Prelude.{Err, None, Ok, Option, Some, ℕ, zero, suc, ◌-◌, cond, List, [], ◌∷◌, ◌++◌, ltb, leb, length, replicate}
 use Rattle.segment.specs.Refusals.{unknown_bar, bar_too_long}
-use Rattle.segment.specs.Results.{Result, ok, refuse, ◌>>=◌, check, roomy}
+use Rattle.segment.specs.Results.{Answer, ◌>>=◌, check, roomy}
 use Rattle.segment.specs.Records.{Term}
 use Rattle.segment.specs.Metadata.{length_of}
 use Rattle.segment.specs.Opening.{open_segment}
@@ -46,22 +45,22 @@ unfoldable pub sheet : (id len : ℕ) → List Term → List ℕ
 sheet id len ts = heading id len ++ sound_lines id len ts
 
 -- the length of the bar, where there is such a bar
-abbrev pub known_bar : Option ℕ → Result ℕ
-known_bar none = refuse unknown_bar
-known_bar (some len) = ok len
+abbrev pub known_bar : Option ℕ → Answer ℕ
+known_bar None = Err unknown_bar
+known_bar (Some len) = Ok len
 
 -- every list of the directory is decoded, whether or not the bar has the sound
-unfoldable pub bar_sheet : (bytes : List ℕ) (id : ℕ) → Result (List ℕ)
+unfoldable pub bar_sheet : (bytes : List ℕ) (id : ℕ) → Answer (List ℕ)
 bar_sheet bytes id = do
   s ← open_segment bytes
   len ← known_bar (length_of s.documents id)
   _ ← check (leb len 64) bar_too_long
   ts ← decode_all s.documents s.entries
-  ok (sheet id len ts)
+  Ok (sheet id len ts)
 
 -- the sheet, or 13 where the buffer is too short for it; `room` is how many places it has
-unfoldable pub sheet_into : (bytes : List ℕ) (id room : ℕ) → Result (List ℕ)
+unfoldable pub sheet_into : (bytes : List ℕ) (id room : ℕ) → Answer (List ℕ)
 sheet_into bytes id room = do
   text ← bar_sheet bytes id
   _ ← roomy 1 (length text) room
-  ok text
+  Ok text

@@ -1,10 +1,10 @@
 -- Opening: "the four checksums", of the directory, the term bytes, the metadata and the postings; the first wrong one stands.
-use Rattle.std.specs.Prelude.{ℕ, ◌+◌, ◌≡◌, refl, List, [], ◌∷◌, ◌++◌}
+use Rattle.std.specs.Prelude.{Ok, ℕ, ◌+◌, ◌≡◌, refl, List, [], ◌∷◌, ◌++◌}
 use Rattle.crc32.specs.Crc32.{crc32_of}
-use Rattle.segment.specs.Results.{ok}
 use Rattle.segment.specs.Opening.{open_segment}
 use Rattle.cases.specs.Through.{opening}
-use Rattle.cases.specs.Sealing.{Four, refused, four, header, document, entry}
+use Rattle.cases.specs.Digits.{refused}
+use Rattle.cases.specs.Sealing.{Four, four, header, document, entry}
 
 -- a segment of one document and one term that opens, its checksums off by so much
 abbrev off : Four → List ℕ
@@ -18,7 +18,7 @@ off by =
     ++ directory ++ names ++ metadata ++ lists
 
 -- all four right; the list's own, 0, is not tested here. Fails: a section's checksum of other bytes
-right : open_segment (off (four 0 0 0 0)) ≡ ok (record {
+right : open_segment (off (four 0 0 0 0)) ≡ Ok (record {
   documents = document 4 9 ∷ [];
   entries = record { name = 0x61 ∷ []; list = 0x04 ∷ 0x01 ∷ 0x08 ∷ []; df = 1; checksum = 0 } ∷ [];
 })

@@ -1,42 +1,43 @@
 -- Opening: metadata. "Per bar both numbers, overflow, order; at the end trailing bytes. Their index is the bar's place from 0." It comes
 -- before the directory.
-use Rattle.std.specs.Prelude.{ℕ, ◌≡◌, refl, List, [], ◌∷◌}
-use Rattle.segment.specs.Results.{Result, ok}
+use Rattle.std.specs.Prelude.{Ok, ℕ, ◌≡◌, refl, List, [], ◌∷◌}
+use Rattle.segment.specs.Results.{Answer}
 use Rattle.segment.specs.Records.{Segment}
 use Rattle.segment.specs.Opening.{open_segment}
 use Rattle.cases.specs.Through.{opening}
-use Rattle.cases.specs.Sealing.{refused, document, sealed}
+use Rattle.cases.specs.Digits.{refused}
+use Rattle.cases.specs.Sealing.{document, sealed}
 
 -- so many documents in this metadata, and no terms
-abbrev bars : (count : ℕ) (metadata : List ℕ) → Result Segment
+abbrev bars : (count : ℕ) (metadata : List ℕ) → Answer Segment
 bars count metadata = open_segment (sealed count 0 [] [] metadata [])
 
 -- ---- accepted
 
 -- an id gap (the first is the id) and a length. Fails: the gap as the id, a length added up
-gaps : bars 2 (0x03 ∷ 0x10 ∷ 0x04 ∷ 0x02 ∷ []) ≡ ok (record { documents = document 3 16 ∷ document 7 2 ∷ []; entries = [] })
+gaps : bars 2 (0x03 ∷ 0x10 ∷ 0x04 ∷ 0x02 ∷ []) ≡ Ok (record { documents = document 3 16 ∷ document 7 2 ∷ []; entries = [] })
 unfolding opening
 gaps = refl
 
 -- the first id may be 0, and a length too. Fails: a first gap of 0 refused
-id_0 : bars 1 (0x00 ∷ 0x00 ∷ []) ≡ ok (record { documents = document 0 0 ∷ []; entries = [] })
+id_0 : bars 1 (0x00 ∷ 0x00 ∷ []) ≡ Ok (record { documents = document 0 0 ∷ []; entries = [] })
 unfolding opening
 id_0 = refl
 
 -- a long form of a small number passes. Fails: long forms refused
-long_forms : bars 1 (0x80 ∷ 0x00 ∷ 0x81 ∷ 0x00 ∷ []) ≡ ok (record { documents = document 0 1 ∷ []; entries = [] })
+long_forms : bars 1 (0x80 ∷ 0x00 ∷ 0x81 ∷ 0x00 ∷ []) ≡ Ok (record { documents = document 0 1 ∷ []; entries = [] })
 unfolding opening
 long_forms = refl
 
 -- the largest id and length. Fails: `<=` at 2^32 - 1
 largest_id : bars 1 (0xFF ∷ 0xFF ∷ 0xFF ∷ 0xFF ∷ 0x0F ∷ 0xFF ∷ 0xFF ∷ 0xFF ∷ 0xFF ∷ 0x0F ∷ [])
-    ≡ ok (record { documents = document 4294967295 4294967295 ∷ []; entries = [] })
+    ≡ Ok (record { documents = document 4294967295 4294967295 ∷ []; entries = [] })
 unfolding opening
 largest_id = refl
 
 -- 0 and the largest gap is no overflow. Fails: `<=` at 2^32 - 1
 largest_gap : bars 2 (0x00 ∷ 0x01 ∷ 0xFF ∷ 0xFF ∷ 0xFF ∷ 0xFF ∷ 0x0F ∷ 0x01 ∷ [])
-    ≡ ok (record { documents = document 0 1 ∷ document 4294967295 1 ∷ []; entries = [] })
+    ≡ Ok (record { documents = document 0 1 ∷ document 4294967295 1 ∷ []; entries = [] })
 unfolding opening
 largest_gap = refl
 

@@ -1,13 +1,14 @@
 -- Opening: the directory. "Directory length; then per entry: term range, UTF-8, empty, order, postings range, df 0." Lists are not decoded.
-use Rattle.std.specs.Prelude.{ℕ, ◌≡◌, refl, List, [], ◌∷◌, ◌++◌, take}
-use Rattle.segment.specs.Results.{Result, ok}
+use Rattle.std.specs.Prelude.{Ok, ℕ, ◌≡◌, refl, List, [], ◌∷◌, ◌++◌, take}
+use Rattle.segment.specs.Results.{Answer}
 use Rattle.segment.specs.Records.{Segment}
 use Rattle.segment.specs.Opening.{open_segment}
 use Rattle.cases.specs.Through.{opening}
-use Rattle.cases.specs.Sealing.{refused, sealed, entry}
+use Rattle.cases.specs.Digits.{refused}
+use Rattle.cases.specs.Sealing.{sealed, entry}
 
 -- so many terms in this directory, over these names and lists, and no documents
-abbrev terms : (count : ℕ) (directory names lists : List ℕ) → Result Segment
+abbrev terms : (count : ℕ) (directory names lists : List ℕ) → Answer Segment
 terms count directory names lists = open_segment (sealed 0 count directory names [] lists)
 
 -- ---- directory length: 32 bytes for each term
@@ -72,7 +73,7 @@ unfolding opening
 name_cut = refl
 
 -- and bytes that no name has are not: FF, a, FF. Fails: the whole text tested
-text_around : terms 1 (entry 1 1 0 1 1 0) (0xFF ∷ 0x61 ∷ 0xFF ∷ []) (0x07 ∷ []) ≡ ok (record {
+text_around : terms 1 (entry 1 1 0 1 1 0) (0xFF ∷ 0x61 ∷ 0xFF ∷ []) (0x07 ∷ []) ≡ Ok (record {
   documents = [];
   entries =
       record { name = 0x61 ∷ []; list = 0x07 ∷ []; df = 1; checksum = 0 }
@@ -134,7 +135,7 @@ unfolding opening
 postings_long = refl
 
 -- an empty list at the end of the section passes. Fails: `<` for `<=` at a range's end, empty lists refused
-postings_at_end : terms 1 (entry 0 1 1 0 1 0) (0x61 ∷ []) (0x07 ∷ []) ≡ ok (record {
+postings_at_end : terms 1 (entry 0 1 1 0 1 0) (0x61 ∷ []) (0x07 ∷ []) ≡ Ok (record {
   documents = [];
   entries =
       record { name = 0x61 ∷ []; list = []; df = 1; checksum = 0 }
@@ -168,7 +169,7 @@ second_entry = refl
 -- entries may share or skip bytes of a section: a and ab of one text, two lists over one byte, one list beginning later. A list is not
 -- decoded: these are nonsense, their checksums too. df and checksum are what the entry has. Fails: bytes that must follow one another
 shared : terms 2 (entry 1 1 1 2 0xFFFFFFFF 9 ++ entry 1 2 2 2 3 0xFFFFFFFF) (0x78 ∷ 0x61 ∷ 0x62 ∷ 0x78 ∷ [])
-    (0x80 ∷ 0x80 ∷ 0x80 ∷ 0x81 ∷ 0x80 ∷ []) ≡ ok (record {
+    (0x80 ∷ 0x80 ∷ 0x80 ∷ 0x81 ∷ 0x80 ∷ []) ≡ Ok (record {
       documents = [];
       entries =
           record { name = 0x61 ∷ []; list = 0x80 ∷ 0x80 ∷ []; df = 4294967295; checksum = 9 }
@@ -179,7 +180,7 @@ unfolding opening
 shared = refl
 
 -- 7A, then C3 A9. Fails: signed bytes
-unsigned : terms 2 (entry 0 1 0 0 1 0 ++ entry 1 2 0 0 1 0) (0x7A ∷ 0xC3 ∷ 0xA9 ∷ []) [] ≡ ok (record {
+unsigned : terms 2 (entry 0 1 0 0 1 0 ++ entry 1 2 0 0 1 0) (0x7A ∷ 0xC3 ∷ 0xA9 ∷ []) [] ≡ Ok (record {
   documents = [];
   entries =
       record { name = 0x7A ∷ []; list = []; df = 1; checksum = 0 }

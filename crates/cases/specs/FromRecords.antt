@@ -1,11 +1,10 @@
 -- The entry over records: the writer's answer on the records taken apart, with two lists lent that have a place for each record.
-use Rattle.std.specs.Prelude.{ℕ, ◌≡◌, refl, List, [], ◌∷◌, length}
-use Rattle.segment.specs.Results.{ok}
+use Rattle.std.specs.Prelude.{Ok, ℕ, ◌≡◌, refl, List, [], ◌∷◌, length}
 use Rattle.calls.specs.Given.{lists}
 use Rattle.write_records.specs.Promise.{taken_apart}
 use Rattle.calls.specs.Writing.{write_records}
 use Rattle.cases.specs.Through.{writing, from_records}
-use Rattle.cases.specs.Sealing.{refused}
+use Rattle.cases.specs.Digits.{refused}
 use Rattle.cases.specs.Segments.{two_documents, segment_of_two}
 
 -- the ids first, then the lengths. Fails: the two swapped
@@ -14,7 +13,7 @@ apart : taken_apart (record { id = record { 0 = 3 }; len = 16 } ∷ record { id 
 apart = refl
 
 -- document 01's two bars: the same bytes. Fails: a refusal of room that is there
-two_from_records : write_records two_documents 2 2 165 ≡ ok segment_of_two
+two_from_records : write_records two_documents 2 2 165 ≡ Ok segment_of_two
 unfolding writing from_records
 two_from_records = refl
 

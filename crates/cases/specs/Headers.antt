@@ -1,10 +1,10 @@
 -- Opening, up to the ranges: "length 72, magic, version, flags; the four ranges; trailing bytes". Where a case has two faults, the first of
 -- them stands.
-use Rattle.std.specs.Prelude.{ℕ, ◌≡◌, refl, List, [], ◌∷◌, ◌++◌, take, set}
-use Rattle.segment.specs.Results.{ok}
+use Rattle.std.specs.Prelude.{Ok, ℕ, ◌≡◌, refl, List, [], ◌∷◌, ◌++◌, take, set}
 use Rattle.segment.specs.Opening.{open_segment}
 use Rattle.cases.specs.Through.{opening}
-use Rattle.cases.specs.Sealing.{refused, four, header}
+use Rattle.cases.specs.Digits.{refused}
+use Rattle.cases.specs.Sealing.{four, header}
 use Rattle.cases.specs.Segments.{segment_of_uneven}
 
 -- a header alone: version, flags, and the lengths of four sections that do not follow; counts and checksums of nothing
@@ -14,7 +14,7 @@ alone version flags directory names metadata lists = header version flags 0 0 (f
 -- ---- length, magic, version, flags
 
 -- no bars, no sounds. Fails: a segment without bars refused
-nothing_inside : open_segment (alone 2 0 0 0 0 0) ≡ ok (record { documents = []; entries = [] })
+nothing_inside : open_segment (alone 2 0 0 0 0 0) ≡ Ok (record { documents = []; entries = [] })
 unfolding opening
 nothing_inside = refl
 

@@ -1,5 +1,6 @@
--- Worked cases, each with its digits; the first six files are what they share:
+-- Worked cases, each with its digits; the first seven files are what they share:
 pub mod Segments
+pub mod Digits
 pub mod Sealing
 pub mod Printed
 pub mod MidiMade

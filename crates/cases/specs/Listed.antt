@@ -1,10 +1,10 @@
 -- The listing: document 01's two bars as it prints them, and one line for a refusal; names by characters (document 02, wish 1).
-use Rattle.std.specs.Prelude.{◌≡◌, refl, ℕ, List, [], ◌∷◌, ◌++◌, length, replicate}
+use Rattle.std.specs.Prelude.{Ok, ◌≡◌, refl, ℕ, List, [], ◌∷◌, ◌++◌, length, replicate}
 use Rattle.segment.specs.Records.{Entry}
 use Rattle.calls.specs.Listing.{listing, document_line, entry_line, name_column, list_into}
-use Rattle.segment.specs.Results.{ok}
 use Rattle.cases.specs.Through.{listing_lines}
-use Rattle.cases.specs.Sealing.{document, refused}
+use Rattle.cases.specs.Digits.{refused}
+use Rattle.cases.specs.Sealing.{document}
 use Rattle.cases.specs.Segments.{segment_of_two}
 
 -- a term of one document, of whatever list
@@ -90,7 +90,7 @@ unfolding listing_lines
 largest_listed xs = (λ n. rw n refl, λ n. rw n refl)
 
 -- a text of 31 bytes, and one place less. Fails: 13 names buffer 2, 13 with the places lent
-listed_whole : list_into [] 31 ≡ ok (listing [])
+listed_whole : list_into [] 31 ≡ Ok (listing [])
 unfolding listing_lines list_into
 listed_whole = refl
 

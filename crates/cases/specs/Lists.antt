@@ -2,38 +2,39 @@
 -- order, length; at the end trailing bytes. The index of kinds 7 to 9 is the posting's place from 0, plus the position's where it is a
 -- position." Every list here is decoded for documents (1, 4) and (3, 9). Not to be seen from outside, and so in no case: a posting id's
 -- order against its known document (only an equal id fails order, and it is known), a position's order against the length.
-use Rattle.std.specs.Prelude.{ℕ, ◌+◌, ◌≡◌, refl, List, [], ◌∷◌}
+use Rattle.std.specs.Prelude.{Ok, ℕ, ◌+◌, ◌≡◌, refl, List, [], ◌∷◌}
 use Rattle.crc32.specs.Crc32.{crc32_of}
-use Rattle.segment.specs.Results.{Result, ok}
+use Rattle.segment.specs.Results.{Answer}
 use Rattle.segment.specs.Records.{Document, Posting}
 use Rattle.segment.specs.Postings.{decode}
 use Rattle.cases.specs.Through.{decoding}
-use Rattle.cases.specs.Sealing.{refused, document, posting}
+use Rattle.cases.specs.Digits.{refused}
+use Rattle.cases.specs.Sealing.{document, posting}
 
 abbrev bars : List Document
 bars = document 1 4 ∷ document 3 9 ∷ []
 
 -- a list of so many postings, its checksum off by so much
-abbrev off : (by df : ℕ) (list : List ℕ) → Result (List Posting)
+abbrev off : (by df : ℕ) (list : List ℕ) → Answer (List Posting)
 off by df list = decode bars (record { name = 0x61 ∷ []; list = list; df = df; checksum = crc32_of list + by })
 
-abbrev decoded : (df : ℕ) (list : List ℕ) → Result (List Posting)
+abbrev decoded : (df : ℕ) (list : List ℕ) → Answer (List Posting)
 decoded df list = off 0 df list
 
 -- ---- accepted
 
 -- each first gap the value itself, in each posting anew. Fails: a gap as the value, the position of the posting before kept
-gaps : decoded 2 (0x01 ∷ 0x02 ∷ 0x00 ∷ 0x03 ∷ 0x02 ∷ 0x02 ∷ 0x00 ∷ 0x08 ∷ []) ≡ ok (posting 1 (0 ∷ 3 ∷ []) ∷ posting 3 (0 ∷ 8 ∷ []) ∷ [])
+gaps : decoded 2 (0x01 ∷ 0x02 ∷ 0x00 ∷ 0x03 ∷ 0x02 ∷ 0x02 ∷ 0x00 ∷ 0x08 ∷ []) ≡ Ok (posting 1 (0 ∷ 3 ∷ []) ∷ posting 3 (0 ∷ 8 ∷ []) ∷ [])
 unfolding decoding
 gaps = refl
 
 -- a list may start with any bar; a position is below its own bar's length: 8 below 9. Fails: the first bar's length
-second_alone : decoded 1 (0x03 ∷ 0x01 ∷ 0x08 ∷ []) ≡ ok (posting 3 (8 ∷ []) ∷ [])
+second_alone : decoded 1 (0x03 ∷ 0x01 ∷ 0x08 ∷ []) ≡ Ok (posting 3 (8 ∷ []) ∷ [])
 unfolding decoding
 second_alone = refl
 
 -- long forms of small numbers pass. Fails: long forms refused
-long_forms : decoded 1 (0x81 ∷ 0x00 ∷ 0x81 ∷ 0x80 ∷ 0x00 ∷ 0x80 ∷ 0x00 ∷ []) ≡ ok (posting 1 (0 ∷ []) ∷ [])
+long_forms : decoded 1 (0x81 ∷ 0x00 ∷ 0x81 ∷ 0x80 ∷ 0x00 ∷ 0x80 ∷ 0x00 ∷ []) ≡ Ok (posting 1 (0 ∷ []) ∷ [])
 unfolding decoding
 long_forms = refl
 

@@ -1,36 +1,34 @@
 -- A length looked up in a caller's own lists (document 02, wish 8): 12, 11, 21 over the whole list, then the length or that there is none.
-use Rattle.std.specs.Prelude.{ℕ, ◌≡◌, refl, List, [], ◌∷◌, length}
-use Rattle.std.proofs.Math.Option.{none, some}
-use Rattle.segment.specs.Results.{ok}
+use Rattle.std.specs.Prelude.{None, Ok, Some, ℕ, ◌≡◌, refl, List, [], ◌∷◌, length}
 use Rattle.calls.specs.Replies.{length_answer}
 use Rattle.length_lookup.specs.Lookup.{looked_up}
 use Rattle.c_reply.specs.Replies.{length_reply}
 use Rattle.cases.specs.Through.{looking_up}
-use Rattle.cases.specs.Sealing.{refused}
+use Rattle.cases.specs.Digits.{refused}
 
 -- ---- ids 3 and 7, lengths 16 and 12
 
 -- Fails: absent for the last id, the length beside another id
-last : looked_up (3 ∷ 7 ∷ []) (16 ∷ 12 ∷ []) 7 ≡ ok (some 12)
+last : looked_up (3 ∷ 7 ∷ []) (16 ∷ 12 ∷ []) 7 ≡ Ok (Some 12)
 unfolding looking_up
 last = refl
 
 -- Fails: absent for the first id
-first : looked_up (3 ∷ 7 ∷ []) (16 ∷ 12 ∷ []) 3 ≡ ok (some 16)
+first : looked_up (3 ∷ 7 ∷ []) (16 ∷ 12 ∷ []) 3 ≡ Ok (Some 16)
 unfolding looking_up
 first = refl
 
 -- one in the middle. Fails: the last length for every id but the first
-middle : looked_up (3 ∷ 7 ∷ 9 ∷ []) (16 ∷ 12 ∷ 8 ∷ []) 7 ≡ ok (some 12)
+middle : looked_up (3 ∷ 7 ∷ 9 ∷ []) (16 ∷ 12 ∷ 8 ∷ []) 7 ≡ Ok (Some 12)
 unfolding looking_up
 middle = refl
 
 -- between, below and above. Fails: the length of the next id
-between : looked_up (3 ∷ 7 ∷ []) (16 ∷ 12 ∷ []) 5 ≡ ok none
+between : looked_up (3 ∷ 7 ∷ []) (16 ∷ 12 ∷ []) 5 ≡ Ok None
 unfolding looking_up
 between = refl
 
-outside : (looked_up (3 ∷ 7 ∷ []) (16 ∷ 12 ∷ []) 2 ≡ ok none) × (looked_up (3 ∷ 7 ∷ []) (16 ∷ 12 ∷ []) 8 ≡ ok none)
+outside : (looked_up (3 ∷ 7 ∷ []) (16 ∷ 12 ∷ []) 2 ≡ Ok None) × (looked_up (3 ∷ 7 ∷ []) (16 ∷ 12 ∷ []) 8 ≡ Ok None)
 unfolding looking_up
 outside = (refl, refl)
 
@@ -49,13 +47,13 @@ unfolding looking_up
 length_0 = refl
 
 -- lists without elements lack every id. Fails: a refusal
-nothing : (id : ℕ) → looked_up [] [] id ≡ ok none
+nothing : (id : ℕ) → looked_up [] [] id ≡ Ok None
 unfolding looking_up
 nothing id = refl
 
 -- the lowest and the highest id. Fails: numbers with a sign, a first id that must be above 0
-ends_of_ids : (looked_up (0 ∷ 2147483648 ∷ 4294967295 ∷ []) (1 ∷ 2 ∷ 4294967295 ∷ []) 0 ≡ ok (some 1))
-    × (looked_up (0 ∷ 2147483648 ∷ 4294967295 ∷ []) (1 ∷ 2 ∷ 4294967295 ∷ []) 4294967295 ≡ ok (some 4294967295))
+ends_of_ids : (looked_up (0 ∷ 2147483648 ∷ 4294967295 ∷ []) (1 ∷ 2 ∷ 4294967295 ∷ []) 0 ≡ Ok (Some 1))
+    × (looked_up (0 ∷ 2147483648 ∷ 4294967295 ∷ []) (1 ∷ 2 ∷ 4294967295 ∷ []) 4294967295 ≡ Ok (Some 4294967295))
 unfolding looking_up
 ends_of_ids = (refl, refl)
 

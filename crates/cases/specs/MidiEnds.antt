@@ -1,18 +1,18 @@
 -- The end of the track, and hits beyond bar 65,535: which refusal comes first. Division 4: a tick is a step. No place is lent.
-use Rattle.std.specs.Prelude.{ℕ, ◌≡◌, refl, List, [], ◌∷◌, ◌++◌, map, replicate}
+use Rattle.std.specs.Prelude.{Ok, ℕ, ◌≡◌, refl, List, [], ◌∷◌, ◌++◌, map, replicate}
 use Rattle.common.specs.Lists.{joined}
-use Rattle.segment.specs.Results.{Result, ok, ◌>>=◌}
+use Rattle.segment.specs.Results.{Answer, ◌>>=◌}
 use Rattle.midi_bars.specs.Loudness.{AllLists}
 use Rattle.cases.specs.Through.{hearing, importing}
-use Rattle.cases.specs.Sealing.{refused}
+use Rattle.cases.specs.Digits.{refused}
 use Rattle.cases.specs.MidiMade.{tune, end, taken, put, heard}
 
-abbrev ended : (track : List ℕ) → Result AllLists
+abbrev ended : (track : List ℕ) → Answer AllLists
 ended track = put (tune 4 track)
 
 -- where the hits are: posting ids, then positions
-abbrev placed : (file : List ℕ) → Result (List ℕ)
-placed file = taken file >>= (λ l. ok (l.posting_ids ++ l.positions))
+abbrev placed : (file : List ℕ) → Answer (List ℕ)
+placed file = taken file >>= (λ l. Ok (l.posting_ids ++ l.positions))
 
 -- ---- the end of the track
 
@@ -57,7 +57,7 @@ last_tick : ended (0xBF ∷ 0xFF ∷ 0x7F ∷ 0x90 ∷ 0x24 ∷ 0x64 ∷ end) �
 unfolding importing
 last_tick = refl
 
-last_tick_placed : placed (tune 4 (0xBF ∷ 0xFF ∷ 0x7F ∷ 0x90 ∷ 0x24 ∷ 0x64 ∷ end)) ≡ ok (65535 ∷ 15 ∷ [])
+last_tick_placed : placed (tune 4 (0xBF ∷ 0xFF ∷ 0x7F ∷ 0x90 ∷ 0x24 ∷ 0x64 ∷ end)) ≡ Ok (65535 ∷ 15 ∷ [])
 unfolding importing
 last_tick_placed = refl
 
@@ -75,7 +75,7 @@ no_hits_there :
     map (λ t. heard (tune 4 t))
     ((0xC0 ∷ 0x80 ∷ 0x00 ∷ 0x90 ∷ 0x24 ∷ 0x00 ∷ end) ∷ (0xC0 ∷ 0x80 ∷ 0x00 ∷ 0x80 ∷ 0x24 ∷ 0x64 ∷ end)
     ∷ (0xC0 ∷ 0x80 ∷ 0x00 ∷ 0xFF ∷ 0x06 ∷ 0x00 ∷ end) ∷ (0xC0 ∷ 0x80 ∷ 0x00 ∷ 0xFF ∷ 0x2F ∷ 0x00 ∷ []) ∷ [])
-    ≡ replicate 4 (ok [])
+    ≡ replicate 4 (Ok [])
 unfolding hearing
 no_hits_there = refl
 
@@ -114,12 +114,12 @@ abbrev far : ℕ → List ℕ
 far n = joined (replicate n (0xFF ∷ 0xFF ∷ 0xFF ∷ 0x7F ∷ 0x80 ∷ 0x24 ∷ 0x00 ∷ []))
 
 -- tick 16 * 268,435,455 + 24,605: bar 32,772, step 3. Fails: ticks of 32 bits, which have bar 0
-past_32_bits : placed (tune 32764 (far 16 ++ 0x81 ∷ 0xC0 ∷ 0x1D ∷ 0x90 ∷ 0x24 ∷ 0x64 ∷ end)) ≡ ok (32772 ∷ 3 ∷ [])
+past_32_bits : placed (tune 32764 (far 16 ++ 0x81 ∷ 0xC0 ∷ 0x1D ∷ 0x90 ∷ 0x24 ∷ 0x64 ∷ end)) ≡ Ok (32772 ∷ 3 ∷ [])
 unfolding importing
 past_32_bits = refl
 
 -- the last tick of bar 65,535, which is 8,588,886,015, and the next. Fails: a limit of ticks; the last tick refused, the next taken
-last_of_all : placed (tune 32764 (far 31 ++ 0xFF ∷ 0xC0 ∷ 0x80 ∷ 0x1E ∷ 0x90 ∷ 0x24 ∷ 0x64 ∷ end)) ≡ ok (65535 ∷ 15 ∷ [])
+last_of_all : placed (tune 32764 (far 31 ++ 0xFF ∷ 0xC0 ∷ 0x80 ∷ 0x1E ∷ 0x90 ∷ 0x24 ∷ 0x64 ∷ end)) ≡ Ok (65535 ∷ 15 ∷ [])
 unfolding importing
 last_of_all = refl
 

@@ -1,29 +1,29 @@
 -- The events of a track, one clause after another. Division 4: a tick is a step. What is read has its hits, each with tick, note and
 -- velocity; a refusal has the offset of its event's delta time, and the first event stands at 22.
-use Rattle.std.specs.Prelude.{ℕ, ◌≡◌, refl, List, [], ◌∷◌, map, replicate}
-use Rattle.segment.specs.Results.{Result, ok}
+use Rattle.std.specs.Prelude.{Ok, ℕ, ◌≡◌, refl, List, [], ◌∷◌, map, replicate}
+use Rattle.segment.specs.Results.{Answer}
 use Rattle.midi_read.specs.declared.track.Hit.{Hit}
 use Rattle.cases.specs.Through.{hearing}
-use Rattle.cases.specs.Sealing.{refused}
+use Rattle.cases.specs.Digits.{refused}
 use Rattle.cases.specs.MidiMade.{tune, end, hit, heard}
 
-abbrev played : (track : List ℕ) → Result (List Hit)
+abbrev played : (track : List ℕ) → Answer (List Hit)
 played track = heard (tune 4 track)
 
 -- ---- delta times
 
 -- seven bits to a byte, the high ones first: 81 70 is 240. Fails: eight bits, the low ones first
-delta_240 : played (0x81 ∷ 0x70 ∷ 0x90 ∷ 0x24 ∷ 0x64 ∷ end) ≡ ok (hit 240 36 100 ∷ [])
+delta_240 : played (0x81 ∷ 0x70 ∷ 0x90 ∷ 0x24 ∷ 0x64 ∷ end) ≡ Ok (hit 240 36 100 ∷ [])
 unfolding hearing
 delta_240 = refl
 
 -- the largest. Fails: three bytes at most
-delta_largest : heard (tune 32764 (0xFF ∷ 0xFF ∷ 0xFF ∷ 0x7F ∷ 0x90 ∷ 0x24 ∷ 0x64 ∷ end)) ≡ ok (hit 268435455 36 100 ∷ [])
+delta_largest : heard (tune 32764 (0xFF ∷ 0xFF ∷ 0xFF ∷ 0x7F ∷ 0x90 ∷ 0x24 ∷ 0x64 ∷ end)) ≡ Ok (hit 268435455 36 100 ∷ [])
 unfolding hearing
 delta_largest = refl
 
 -- a long form of 1. Fails: long forms refused
-delta_long_form : played (0x80 ∷ 0x80 ∷ 0x80 ∷ 0x01 ∷ 0x90 ∷ 0x24 ∷ 0x64 ∷ end) ≡ ok (hit 1 36 100 ∷ [])
+delta_long_form : played (0x80 ∷ 0x80 ∷ 0x80 ∷ 0x01 ∷ 0x90 ∷ 0x24 ∷ 0x64 ∷ end) ≡ Ok (hit 1 36 100 ∷ [])
 unfolding hearing
 delta_long_form = refl
 
@@ -46,7 +46,7 @@ deltas_add :
     played
     (0x01 ∷ 0xFF ∷ 0x06 ∷ 0x00 ∷ 0x02 ∷ 0xF0 ∷ 0x00 ∷ 0x04 ∷ 0x80 ∷ 0x24 ∷ 0x40 ∷ 0x08 ∷ 0xC0 ∷ 0x05 ∷ 0x10 ∷ 0x90 ∷ 0x24 ∷ 0x00 ∷ 0x20
     ∷ 0x24 ∷ 0x64 ∷ 0x40 ∷ 0x26 ∷ 0x64 ∷ end)
-    ≡ ok (hit 63 36 100 ∷ hit 127 38 100 ∷ [])
+    ≡ Ok (hit 63 36 100 ∷ hit 127 38 100 ∷ [])
 unfolding hearing
 deltas_add = refl
 
@@ -56,28 +56,28 @@ deltas_add = refl
 every_channel :
     map (λ s. played (0x00 ∷ s ∷ 0x24 ∷ 0x64 ∷ end))
     (0x90 ∷ 0x91 ∷ 0x92 ∷ 0x93 ∷ 0x94 ∷ 0x95 ∷ 0x96 ∷ 0x97 ∷ 0x98 ∷ 0x99 ∷ 0x9A ∷ 0x9B ∷ 0x9C ∷ 0x9D ∷ 0x9E ∷ 0x9F ∷ [])
-    ≡ replicate 16 (ok (hit 0 36 100 ∷ []))
+    ≡ replicate 16 (Ok (hit 0 36 100 ∷ []))
 unfolding hearing
 every_channel = refl
 
 -- note and velocity at their ends. Fails: velocity 1 as silence
-extremes : played (0x00 ∷ 0x90 ∷ 0x00 ∷ 0x01 ∷ 0x00 ∷ 0x7F ∷ 0x7F ∷ end) ≡ ok (hit 0 0 1 ∷ hit 0 127 127 ∷ [])
+extremes : played (0x00 ∷ 0x90 ∷ 0x00 ∷ 0x01 ∷ 0x00 ∷ 0x7F ∷ 0x7F ∷ end) ≡ Ok (hit 0 0 1 ∷ hit 0 127 127 ∷ [])
 unfolding hearing
 extremes = refl
 
 -- velocity 0. Fails: velocity 0 counted
-velocity_0 : played (0x00 ∷ 0x90 ∷ 0x24 ∷ 0x00 ∷ end) ≡ ok []
+velocity_0 : played (0x00 ∷ 0x90 ∷ 0x24 ∷ 0x00 ∷ end) ≡ Ok []
 unfolding hearing
 velocity_0 = refl
 
 -- other messages of two data bytes: 8, A, B, E. Fails: one of them counted
 two_data_bytes :
-    map (λ s. played (0x00 ∷ s ∷ 0x24 ∷ 0x64 ∷ end)) (0x80 ∷ 0x8F ∷ 0xA0 ∷ 0xAF ∷ 0xB0 ∷ 0xBF ∷ 0xE0 ∷ 0xEF ∷ []) ≡ replicate 8 (ok [])
+    map (λ s. played (0x00 ∷ s ∷ 0x24 ∷ 0x64 ∷ end)) (0x80 ∷ 0x8F ∷ 0xA0 ∷ 0xAF ∷ 0xB0 ∷ 0xBF ∷ 0xE0 ∷ 0xEF ∷ []) ≡ replicate 8 (Ok [])
 unfolding hearing
 two_data_bytes = refl
 
 -- and of one: C, D. Fails: two for all
-one_data_byte : map (λ s. played (0x00 ∷ s ∷ 0x24 ∷ end)) (0xC0 ∷ 0xCF ∷ 0xD0 ∷ 0xDF ∷ []) ≡ replicate 4 (ok [])
+one_data_byte : map (λ s. played (0x00 ∷ s ∷ 0x24 ∷ end)) (0xC0 ∷ 0xCF ∷ 0xD0 ∷ 0xDF ∷ []) ≡ replicate 4 (Ok [])
 unfolding hearing
 one_data_byte = refl
 
@@ -110,13 +110,13 @@ unfolding hearing
 none_at_first = refl
 
 -- kept over a velocity of 0. Fails: each event with a status of its own
-kept : played (0x00 ∷ 0x90 ∷ 0x24 ∷ 0x00 ∷ 0x00 ∷ 0x26 ∷ 0x64 ∷ 0x00 ∷ 0x28 ∷ 0x64 ∷ end) ≡ ok (hit 0 38 100 ∷ hit 0 40 100 ∷ [])
+kept : played (0x00 ∷ 0x90 ∷ 0x24 ∷ 0x00 ∷ 0x00 ∷ 0x26 ∷ 0x64 ∷ 0x00 ∷ 0x28 ∷ 0x64 ∷ end) ≡ Ok (hit 0 38 100 ∷ hit 0 40 100 ∷ [])
 unfolding hearing
 kept = refl
 
 -- the last message's, whichever it is: 26 64 is of B, 05 of C. Fails: the last note-on's
 of_the_last : played (0x00 ∷ 0x90 ∷ 0x24 ∷ 0x64 ∷ 0x00 ∷ 0xB0 ∷ 0x07 ∷ 0x7F ∷ 0x00 ∷ 0x26 ∷ 0x64 ∷ 0x00 ∷ 0xC0 ∷ 0x04 ∷ 0x00 ∷ 0x05 ∷ end)
-    ≡ ok (hit 0 36 100 ∷ [])
+    ≡ Ok (hit 0 36 100 ∷ [])
 unfolding hearing
 of_the_last = refl
 
@@ -140,7 +140,7 @@ ended = refl
 
 -- and set anew. Fails: ended for good
 set_anew : played (0x00 ∷ 0x90 ∷ 0x24 ∷ 0x64 ∷ 0x00 ∷ 0xF0 ∷ 0x00 ∷ 0x00 ∷ 0x91 ∷ 0x26 ∷ 0x64 ∷ 0x00 ∷ 0x28 ∷ 0x64 ∷ end)
-    ≡ ok (hit 0 36 100 ∷ hit 0 38 100 ∷ hit 0 40 100 ∷ [])
+    ≡ Ok (hit 0 36 100 ∷ hit 0 38 100 ∷ hit 0 40 100 ∷ [])
 unfolding hearing
 set_anew = refl
 
@@ -152,19 +152,19 @@ skipped_whole :
     ((0x00 ∷ 0xF0 ∷ 0x08 ∷ 0x00 ∷ 0xFF ∷ 0x2F ∷ 0x00 ∷ 0xF7 ∷ 0x90 ∷ 0x24 ∷ 0x64 ∷ end)
     ∷ (0x00 ∷ 0xF7 ∷ 0x08 ∷ 0x00 ∷ 0xFF ∷ 0x2F ∷ 0x00 ∷ 0xF1 ∷ 0x90 ∷ 0x24 ∷ 0x64 ∷ end)
     ∷ (0x00 ∷ 0xFF ∷ 0x01 ∷ 0x08 ∷ 0x00 ∷ 0xFF ∷ 0x2F ∷ 0x00 ∷ 0xF1 ∷ 0x90 ∷ 0x24 ∷ 0x64 ∷ end) ∷ [])
-    ≡ replicate 3 (ok [])
+    ≡ replicate 3 (Ok [])
 unfolding hearing
 skipped_whole = refl
 
 -- a tempo of one byte. Fails: lengths by type
-tempo_of_one : played (0x00 ∷ 0xFF ∷ 0x51 ∷ 0x01 ∷ 0x07 ∷ 0x00 ∷ 0x90 ∷ 0x24 ∷ 0x64 ∷ end) ≡ ok (hit 0 36 100 ∷ [])
+tempo_of_one : played (0x00 ∷ 0xFF ∷ 0x51 ∷ 0x01 ∷ 0x07 ∷ 0x00 ∷ 0x90 ∷ 0x24 ∷ 0x64 ∷ end) ≡ Ok (hit 0 36 100 ∷ [])
 unfolding hearing
 tempo_of_one = refl
 
 -- types 0 and 127 are taken, 128 and 255 not. Fails: not tested, unknown types refused
 types :
     map (λ t. played (0x00 ∷ 0xFF ∷ t ∷ 0x01 ∷ 0x41 ∷ end)) (0x00 ∷ 0x7F ∷ 0x80 ∷ 0xFF ∷ [])
-    ≡ ok [] ∷ ok [] ∷ refused 14 0 22 ∷ refused 14 0 22 ∷ []
+    ≡ Ok [] ∷ Ok [] ∷ refused 14 0 22 ∷ refused 14 0 22 ∷ []
 unfolding hearing
 types = refl
 
@@ -173,7 +173,7 @@ length_forms :
     map played
     ((0x00 ∷ 0xFF ∷ 0x01 ∷ 0x80 ∷ 0x80 ∷ 0x80 ∷ 0x01 ∷ 0x41 ∷ end) ∷ (0x00 ∷ 0xFF ∷ 0x01 ∷ 0x80 ∷ 0x80 ∷ 0x80 ∷ 0x80 ∷ 0x00 ∷ end)
     ∷ (0x00 ∷ 0xF0 ∷ 0x80 ∷ 0x80 ∷ 0x80 ∷ 0x01 ∷ 0x41 ∷ end) ∷ (0x00 ∷ 0xF0 ∷ 0x80 ∷ 0x80 ∷ 0x80 ∷ 0x80 ∷ 0x00 ∷ end) ∷ [])
-    ≡ ok [] ∷ refused 14 0 22 ∷ ok [] ∷ refused 14 0 22 ∷ []
+    ≡ Ok [] ∷ refused 14 0 22 ∷ Ok [] ∷ refused 14 0 22 ∷ []
 unfolding hearing
 length_forms = refl
 

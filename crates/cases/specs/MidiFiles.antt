@@ -1,10 +1,9 @@
 -- MIDI files worked out by hand, byte by byte, and what they are read into.
-use Rattle.std.specs.Prelude.{ℕ, ◌≡◌, refl, List, [], ◌∷◌, ◌++◌}
-use Rattle.segment.specs.Results.{ok}
+use Rattle.std.specs.Prelude.{Ok, ℕ, ◌≡◌, refl, List, [], ◌∷◌, ◌++◌}
 use Rattle.calls.specs.Given.{Lists, lists}
 use Rattle.midi_bars.specs.Loudness.{beside}
 use Rattle.cases.specs.Through.{importing}
-use Rattle.cases.specs.Sealing.{refused}
+use Rattle.cases.specs.Digits.{refused}
 use Rattle.cases.specs.MidiMade.{taken, room, no_lists, into, Answered, totals, put}
 
 -- the bytes of the names
@@ -41,7 +40,7 @@ groove_lists =
     (2 ∷ 1 ∷ 2 ∷ 1 ∷ []) (0 ∷ 14 ∷ 0 ∷ 4 ∷ 15 ∷ 2 ∷ [])
 
 -- Fails: velocity 0 counted, which has n036 on step 2; the last hit lost; tick 384 into bar 0; tick 383 rounded up
-groove_taken : taken groove ≡ ok groove_lists
+groove_taken : taken groove ≡ Ok groove_lists
 unfolding importing
 groove_taken = refl
 
@@ -78,7 +77,7 @@ equal_hits_lists =
     lists (0 ∷ 1 ∷ 2 ∷ []) (16 ∷ 16 ∷ 16 ∷ []) (n036 ++ n038) (4 ∷ 8 ∷ []) (1 ∷ 2 ∷ []) (0 ∷ 0 ∷ 2 ∷ []) (1 ∷ 1 ∷ 1 ∷ []) (0 ∷ 0 ∷ 3 ∷ [])
 
 -- Fails: equal hits kept twice; a sound for each channel; bar 1 left out; sounds in file order
-equal_hits_taken : taken equal_hits ≡ ok equal_hits_lists
+equal_hits_taken : taken equal_hits ≡ Ok equal_hits_lists
 unfolding importing
 equal_hits_taken = refl
 
@@ -178,7 +177,7 @@ triplets =
 
 -- Fails: rounding to the nearest step, which has 64 on 3
 triplets_taken : taken triplets
-    ≡ ok
+    ≡ Ok
     (lists (0 ∷ 1 ∷ []) (16 ∷ 16 ∷ []) (0x6E ∷ 0x30 ∷ 0x34 ∷ 0x35 ∷ 0x6E ∷ 0x30 ∷ 0x34 ∷ 0x37 ∷ 0x6E ∷ 0x30 ∷ 0x35 ∷ 0x30 ∷ [])
     (4 ∷ 8 ∷ 12 ∷ []) (2 ∷ 1 ∷ 1 ∷ []) (0 ∷ 1 ∷ 0 ∷ 0 ∷ []) (2 ∷ 1 ∷ 1 ∷ 1 ∷ []) (0 ∷ 15 ∷ 0 ∷ 1 ∷ 2 ∷ []))
 unfolding importing

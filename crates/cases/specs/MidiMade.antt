@@ -1,8 +1,7 @@
 -- MIDI files made by hand, and what is asked of them: bars of 16 steps, four to a quarter.
-use Rattle.std.specs.Prelude.{ℕ, ◌/◌, ◌%◌, List, [], ◌∷◌, ◌++◌, length, replicate}
-use Rattle.segment.specs.Results.{Result, ok, ◌>>=◌}
-use Rattle.segment.specs.declared.replies.Imported.{Imported}
-use Rattle.segment.specs.declared.replies.Imported.TheVariants as imported
+use Rattle.std.specs.Prelude.{Ok, ℕ, ◌/◌, ◌%◌, List, [], ◌∷◌, ◌++◌, length, replicate}
+use Rattle.segment.specs.declared.replies.ListTotals.{ListTotals}
+use Rattle.segment.specs.Results.{Answer, ◌>>=◌}
 use Rattle.calls.specs.Given.{Lists, lists}
 use Rattle.midi_read.specs.declared.track.Hit.{Hit}
 use Rattle.midi_read.specs.Files.{chunks, hits}
@@ -32,12 +31,12 @@ end = 0x00 ∷ 0xFF ∷ 0x2F ∷ 0x00 ∷ []
 -- ---- what is asked
 
 -- the lists that the writer takes, whatever the room
-abbrev pub taken : (file : List ℕ) → Result Lists
+abbrev pub taken : (file : List ℕ) → Answer Lists
 taken file = import_file 16 4 file
 
 -- the velocities beside the positions, whatever the room
-abbrev pub loud : (file : List ℕ) → Result (List ℕ)
-loud file = import_all 16 4 file >>= (λ a. ok a.velocities)
+abbrev pub loud : (file : List ℕ) → Answer (List ℕ)
+loud file = import_all 16 4 file >>= (λ a. Ok a.velocities)
 
 -- buffers with so many places
 abbrev pub room : (ids lengths text ends posting_counts posting_ids position_counts positions velocities : ℕ) → AllLists
@@ -50,23 +49,23 @@ abbrev pub no_lists : AllLists
 no_lists = beside (lists [] [] [] [] [] [] [] []) []
 
 -- the call, with these buffers lent
-abbrev pub into : AllLists → (file : List ℕ) → Result AllLists
+abbrev pub into : AllLists → (file : List ℕ) → Answer AllLists
 into lent file = import_into 16 4 file lent
 
 -- its promise: of the reply, and of the buffers afterwards
-abbrev pub Answered : (file : List ℕ) (lent : AllLists) (r : Imported) (left : AllLists) → Type 0
+abbrev pub Answered : (file : List ℕ) (lent : AllLists) (r : Answer ListTotals) (left : AllLists) → Type 0
 Answered = BarsImported 16 4
 
 -- the reply's four numbers
-abbrev pub totals : (bars sounds postings positions : ℕ) → Imported
-totals b s ps ks = imported.Totals (record { documents = b; terms = s; postings = ps; positions = ks })
+abbrev pub totals : (bars sounds postings positions : ℕ) → Answer ListTotals
+totals b s ps ks = Ok (record { documents = b; terms = s; postings = ps; positions = ks })
 
 -- the call without a place anywhere, so that every other refusal is seen to come before 13
-abbrev pub put : (file : List ℕ) → Result AllLists
+abbrev pub put : (file : List ℕ) → Answer AllLists
 put file = into (room 0 0 0 0 0 0 0 0 0) file
 
 -- the hits in file order
-abbrev pub heard : (file : List ℕ) → Result (List Hit)
+abbrev pub heard : (file : List ℕ) → Answer (List Hit)
 heard file = chunks 16 4 file >>= (λ g. hits g file)
 
 abbrev pub hit : (tick note velocity : ℕ) → Hit

@@ -1,18 +1,18 @@
 -- MIDI files refused before their first event, in document 02's order: 12; 14 with index 0 for the header; 14 with index 14 for the
 -- track's heading. No place is lent, so that each is seen to come before 13; and where a file has two faults, the first of them stands.
-use Rattle.std.specs.Prelude.{ℕ, ◌≡◌, refl, List, [], ◌∷◌, ◌++◌, map, length, replicate, take, set}
-use Rattle.segment.specs.Results.{Result, ok}
+use Rattle.std.specs.Prelude.{Ok, ℕ, ◌≡◌, refl, List, [], ◌∷◌, ◌++◌, map, length, replicate, take, set}
+use Rattle.segment.specs.Results.{Answer}
 use Rattle.midi_bars.specs.Loudness.{AllLists}
 use Rattle.midi_read.specs.Files.{chunks}
 use Rattle.cases.specs.Through.{heading_read, importing}
-use Rattle.cases.specs.Sealing.{refused}
+use Rattle.cases.specs.Digits.{refused}
 use Rattle.cases.specs.MidiMade.{header, heading, tune, end, no_lists, put}
 
 -- a file without hits that is read: 26 bytes
 abbrev fine : List ℕ
 fine = tune 96 end
 
-fine_read : put fine ≡ ok no_lists
+fine_read : put fine ≡ Ok no_lists
 unfolding importing
 fine_read = refl
 
@@ -27,7 +27,7 @@ long_file xs = (λ n. rw n refl, λ n. rw n refl)
 -- the longest track, of 16,777,194 bytes, is read from its first event on; 24 ticks to a step. Fails: a heading's length of 16 bits
 long_track : (xs : List ℕ)
     → length xs ≡ 16777194
-    → chunks 16 4 (header 96 ++ 0x4D ∷ 0x54 ∷ 0x72 ∷ 0x6B ∷ 0x00 ∷ 0xFF ∷ 0xFF ∷ 0xEA ∷ xs) ≡ ok (record { ticks = 24; steps = 16 })
+    → chunks 16 4 (header 96 ++ 0x4D ∷ 0x54 ∷ 0x72 ∷ 0x6B ∷ 0x00 ∷ 0xFF ∷ 0xFF ∷ 0xEA ∷ xs) ≡ Ok (record { ticks = 24; steps = 16 })
 unfolding heading_read
 long_track xs n = rw n refl
 
@@ -72,7 +72,7 @@ tracks_2 = refl
 
 -- ---- the division: 4 to 32,764, a multiple of 4
 
-abbrev divided : (division : ℕ) → Result AllLists
+abbrev divided : (division : ℕ) → Answer AllLists
 divided division = put (tune division end)
 
 -- Fails: 0 taken, with which a step has no ticks; numbers that are no multiple of 4 rounded; 32,767 as the largest
@@ -86,7 +86,7 @@ unfolding importing
 frames_refused = refl
 
 -- Fails: both ends refused, little-endian
-divisions_taken : map divided (4 ∷ 8 ∷ 96 ∷ 480 ∷ 1024 ∷ 32764 ∷ []) ≡ replicate 6 (ok no_lists)
+divisions_taken : map divided (4 ∷ 8 ∷ 96 ∷ 480 ∷ 1024 ∷ 32764 ∷ []) ≡ replicate 6 (Ok no_lists)
 unfolding importing
 divisions_taken = refl
 
@@ -139,7 +139,7 @@ other_chunk_behind = refl
 
 -- a length of two bytes: a text of 256 bytes, and 5 and 4 bytes around it. Fails: little-endian, one byte
 length_256 : put (header 96 ++ heading 0x0109 ++ 0x00 ∷ 0xFF ∷ 0x01 ∷ 0x82 ∷ 0x00 ∷ replicate 256 0x41 ++ end)
-    ≡ ok no_lists
+    ≡ Ok no_lists
 unfolding importing
 length_256 = refl
 

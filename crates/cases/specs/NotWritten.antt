@@ -2,13 +2,13 @@
 -- unknown bar, underflow, order, no positions; per position underflow, order, length; last 13". There is room for nothing in any of these
 -- cases, so that every other refusal is seen to come before 13; and where a case has two faults, the first of them stands.
 use Rattle.std.specs.Prelude.{ℕ, ◌≡◌, refl, List, [], ◌∷◌}
-use Rattle.segment.specs.Results.{Result}
+use Rattle.segment.specs.Results.{Answer}
 use Rattle.calls.specs.Writing.{write}
 use Rattle.cases.specs.Through.{writing}
-use Rattle.cases.specs.Sealing.{refused}
+use Rattle.cases.specs.Digits.{refused}
 
 -- ids, lengths, text, ends, postings per term, posting ids, position counts, positions, and no room
-abbrev pub put : (ids lengths text ends posting_counts posting_ids position_counts positions : List ℕ) → Result (List ℕ)
+abbrev pub put : (ids lengths text ends posting_counts posting_ids position_counts positions : List ℕ) → Answer (List ℕ)
 put ids lengths text ends posting_counts posting_ids position_counts positions =
     write
     (record {

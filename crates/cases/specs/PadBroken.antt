@@ -1,14 +1,13 @@
 -- Kind 20 (document 02, wish 6), before all else: which words are a pad, and the map that these hold. Hits by digits have velocity 1, so
 -- that a first word is 256 more than its sound, but for those of PadMade.antt; other velocities are in PadVelocities.antt.
-use Rattle.std.specs.Prelude.{ℕ, ◌≡◌, true, false, List, [], ◌∷◌, map, length, replicate, drop}
+use Rattle.std.specs.Prelude.{Ok, ℕ, ◌≡◌, true, false, List, [], ◌∷◌, map, length, replicate, drop}
 use Rattle.std.proofs.Math.Path.{refl}
-use Rattle.segment.specs.Results.{ok}
 use Rattle.pad_map.specs.Bars.{Bar, hit, bar}
 use Rattle.pad_words.specs.Words.{stored}
 use Rattle.pad_words.specs.Whole.{whole}
 use Rattle.pad_words.specs.Calls.{held_bars, pad_save, pad_erase, pad_read, pad_write}
 use Rattle.cases.specs.Through.{recording, writing_out}
-use Rattle.cases.specs.Sealing.{refused}
+use Rattle.cases.specs.Digits.{refused}
 use Rattle.cases.specs.PadMade.{empty, two_bars, pad_of_1, words_of_3, words_of_7, pad_of_two, count_up, Holds}
 
 -- ---- the words of a map, and the map of words
@@ -70,7 +69,7 @@ unfolding recording
 step_4 rest n = rw n refl
 
 -- each bar begins anew: bar 7's first hit need not come behind bar 3's last. Fails: 20
-begins_anew : Holds (2 ∷ 2 ∷ 3 ∷ 4 ∷ 1 ∷ 265 ∷ 3 ∷ 7 ∷ 4 ∷ 1 ∷ 261 ∷ 0 ∷ []) (ok (bar 3 4 (hit 9 3 1 ∷ []) ∷ bar 7 4 (hit 5 0 1 ∷ []) ∷ []))
+begins_anew : Holds (2 ∷ 2 ∷ 3 ∷ 4 ∷ 1 ∷ 265 ∷ 3 ∷ 7 ∷ 4 ∷ 1 ∷ 261 ∷ 0 ∷ []) (Ok (bar 3 4 (hit 9 3 1 ∷ []) ∷ bar 7 4 (hit 5 0 1 ∷ []) ∷ []))
 unfolding recording
 begins_anew rest n = rw n refl
 
@@ -105,7 +104,7 @@ count_9000 = refl
 bar_7_left_out : (rest : List ℕ) → length (pad_of_two rest) ≡ 17154
     → (held_bars (1 ∷ 8 ∷ words_of_3 (words_of_7 rest)) ≡ refused 20 0 0)
     × (held_bars (1 ∷ 5 ∷ words_of_3 (words_of_7 rest))
-    ≡ ok (bar 3 16 (hit 36 0 127 ∷ hit 36 4 1 ∷ hit 36 15 64 ∷ hit 38 8 100 ∷ hit 38 14 2 ∷ []) ∷ []))
+    ≡ Ok (bar 3 16 (hit 36 0 127 ∷ hit 36 4 1 ∷ hit 36 15 64 ∷ hit 38 8 100 ∷ hit 38 14 2 ∷ []) ∷ []))
 unfolding recording
 bar_7_left_out rest n = (rw n refl, rw n refl)
 

@@ -3,7 +3,7 @@ use Rattle.std.specs.Prelude.{ℕ, ◌≡◌, refl, List, [], ◌∷◌, length}
 use Rattle.pad_words.specs.Calls.{held_bars, pad_save, pad_erase, saved_words, erased_words}
 use Rattle.pad_read.specs.Counter.{pad_hits}
 use Rattle.cases.specs.Through.{recording}
-use Rattle.cases.specs.Sealing.{refused}
+use Rattle.cases.specs.Digits.{refused}
 use Rattle.cases.specs.PadMade.{empty, pad_of_1, pad_of_two}
 
 -- ---- of pads

@@ -1,11 +1,10 @@
 -- A full pad, and room in pieces (document 02, wish 6): 64 bars of 128 hits each; then every other bar erased. Document 02: "Room of an
 -- erased bar serves the next", however small the pieces are.
-use Rattle.std.specs.Prelude.{ℕ, ◌*◌, ◌+◌, ◌/◌, ◌%◌, ◌≡◌, refl, List, [], ◌∷◌, ◌++◌, map}
-use Rattle.segment.specs.Results.{ok}
+use Rattle.std.specs.Prelude.{Ok, ℕ, ◌*◌, ◌+◌, ◌/◌, ◌%◌, ◌≡◌, refl, List, [], ◌∷◌, ◌++◌, map}
 use Rattle.pad_map.specs.Bars.{Bar, bar, hits_in, without}
 use Rattle.pad_map.specs.Acts.{save}
 use Rattle.cases.specs.Through.{mapping}
-use Rattle.cases.specs.Sealing.{refused}
+use Rattle.cases.specs.Digits.{refused}
 use Rattle.cases.specs.PadMade.{count_up}
 
 -- so many hits in bars of 64 steps: sound 0 on every step, then sound 1, and so on
@@ -36,7 +35,7 @@ unfolding mapping
 one_more = refl
 
 -- but a bar without hits, the 65th. Fails: full is full
-no_hit_more : save full 100 64 [] [] [] ≡ ok (full ++ bar 100 64 [] ∷ [])
+no_hit_more : save full 100 64 [] [] [] ≡ Ok (full ++ bar 100 64 [] ∷ [])
 unfolding mapping
 no_hit_more = refl
 
@@ -51,7 +50,7 @@ unfolding mapping
 evens_erased = refl
 
 -- 32 gaps of 128 hits: one bar of 4,096 hits takes them all. Fails: 19 for want of a gap so long
-all_gaps : save half 200 64 (sounds 4096) (steps 4096) (velocities 4096) ≡ ok (half ++ bar_of 200 4096 ∷ [])
+all_gaps : save half 200 64 (sounds 4096) (steps 4096) (velocities 4096) ≡ Ok (half ++ bar_of 200 4096 ∷ [])
 unfolding mapping
 all_gaps = refl
 

@@ -1,8 +1,7 @@
 -- What the cases of the pad share: its words by digits, the bars that they hold. A case is of every pad of 17,154 words that begins so,
 -- whatever the free words behind are (`rest`).
 use Rattle.std.specs.Prelude.{ℕ, suc, zero, ◌≡◌, List, [], ◌∷◌, ◌++◌, length, replicate}
-use Rattle.segment.specs.Results.{Result}
-use Rattle.segment.specs.declared.replies.Counted.{Counted}
+use Rattle.segment.specs.Results.{Answer}
 use Rattle.pad_map.specs.Bars.{Bar, hit, bar}
 use Rattle.pad_words.specs.Calls.{held_bars, pad_save, pad_erase, saved_words, erased_words}
 use Rattle.pad_record.specs.Promise.{save_answer, erase_answer}
@@ -42,13 +41,13 @@ count_up from (suc n) = from ∷ count_up (suc from) n
 -- ---- what a case says
 
 -- the map that is held, or 20
-abbrev pub Holds : (front : List ℕ) → Result (List Bar) → Type 0
+abbrev pub Holds : (front : List ℕ) → Answer (List Bar) → Type 0
 Holds front answer = (rest : List ℕ) → length (front ++ rest) ≡ 17154 → held_bars (front ++ rest) ≡ answer
 
 -- saving and erasing: the reply, and the words afterwards
-abbrev pub Saves : (pad : List ℕ) (id len : ℕ) (sounds steps velocities : List ℕ) → Counted → (after : List ℕ) → Type 0
+abbrev pub Saves : (pad : List ℕ) (id len : ℕ) (sounds steps velocities : List ℕ) → Answer ℕ → (after : List ℕ) → Type 0
 Saves pad id len ss ts vs r after =
     (r ≡ save_answer (length ss) (pad_save pad id len ss ts vs)) × (after ≡ saved_words (pad_save pad id len ss ts vs) pad)
 
-abbrev pub Erases : (pad : List ℕ) (id : ℕ) → Counted → (after : List ℕ) → Type 0
+abbrev pub Erases : (pad : List ℕ) (id : ℕ) → Answer ℕ → (after : List ℕ) → Type 0
 Erases pad id r after = (r ≡ erase_answer (pad_erase pad id)) × (after ≡ erased_words id (pad_erase pad id) pad)

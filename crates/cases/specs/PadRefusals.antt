@@ -1,21 +1,20 @@
 -- What saving refuses, and in which order (document 02, wish 6): 20 (PadBroken.antt); 18; 12 and 11 of the lists; then, each over all hits
 -- before the next, a sound above 127, a velocity out of range (PadVelocities.antt), hit order, a step not below the length; 19 last. Bar 1
 -- has 4 steps and is held.
-use Rattle.std.specs.Prelude.{ℕ, ◌≡◌, List, [], ◌∷◌, length}
+use Rattle.std.specs.Prelude.{None, Ok, ℕ, ◌≡◌, List, [], ◌∷◌, length}
 use Rattle.std.proofs.Math.Path.{refl}
-use Rattle.std.proofs.Math.Option.{none}
-use Rattle.segment.specs.Results.{Result, ok}
+use Rattle.segment.specs.Results.{Answer}
 use Rattle.pad_map.specs.Bars.{Bar, hit, bar, hits_in, insert, lookup, hits_in_all}
 use Rattle.pad_map.specs.Rules.{check_hits}
 use Rattle.pad_map.specs.Acts.{save}
 use Rattle.pad_words.specs.Calls.{pad_save}
 use Rattle.cases.specs.Through.{mapping, recording}
-use Rattle.cases.specs.Sealing.{refused}
+use Rattle.cases.specs.Digits.{refused}
 use Rattle.cases.specs.PadMade.{pad_of_1}
 
 module _ (rest : List ℕ) (n : length (pad_of_1 rest) ≡ 17154) where
   -- into a pad that holds bar 1
-  abbrev saved : (id len : ℕ) (sounds steps velocities : List ℕ) → Result (List Bar)
+  abbrev saved : (id len : ℕ) (sounds steps velocities : List ℕ) → Answer (List Bar)
   saved = pad_save (pad_of_1 rest)
 
   -- ---- 18, right after 20
@@ -36,8 +35,8 @@ module _ (rest : List ℕ) (n : length (pad_of_1 rest) ≡ 17154) where
   held_hits = rw n refl
 
   -- another id is not held. Fails: 18 for every id, for one above
-  not_held : (saved 0 4 [] [] [] ≡ ok (bar 0 4 [] ∷ bar 1 4 (hit 5 0 70 ∷ []) ∷ []))
-      × (saved 2 4 [] [] [] ≡ ok (bar 1 4 (hit 5 0 70 ∷ []) ∷ bar 2 4 [] ∷ []))
+  not_held : (saved 0 4 [] [] [] ≡ Ok (bar 0 4 [] ∷ bar 1 4 (hit 5 0 70 ∷ []) ∷ []))
+      × (saved 2 4 [] [] [] ≡ Ok (bar 1 4 (hit 5 0 70 ∷ []) ∷ bar 2 4 [] ∷ []))
   unfolding recording
   not_held = (rw n refl, rw n refl)
 
@@ -76,7 +75,7 @@ module _ (rest : List ℕ) (n : length (pad_of_1 rest) ≡ 17154) where
   all_sounds_first = rw n refl
 
   -- 127 passes, 128 is 12, with zeros. Fails: `<` for `<=` at 127, the hit's place as index
-  sound_127 : (saved 2 4 (127 ∷ []) (3 ∷ []) (1 ∷ []) ≡ ok (bar 1 4 (hit 5 0 70 ∷ []) ∷ bar 2 4 (hit 127 3 1 ∷ []) ∷ []))
+  sound_127 : (saved 2 4 (127 ∷ []) (3 ∷ []) (1 ∷ []) ≡ Ok (bar 1 4 (hit 5 0 70 ∷ []) ∷ bar 2 4 (hit 127 3 1 ∷ []) ∷ []))
       × (saved 2 4 (128 ∷ []) (3 ∷ []) (1 ∷ []) ≡ refused 12 0 0)
   unfolding recording
   sound_127 = (rw n refl, rw n refl)
@@ -105,8 +104,8 @@ module _ (rest : List ℕ) (n : length (pad_of_1 rest) ≡ 17154) where
 
   -- two sounds on one step, and a step that falls where the sound rises. Fails: the order by step, by both
   sound_rises :
-      (saved 2 4 (5 ∷ 6 ∷ []) (1 ∷ 1 ∷ []) (9 ∷ 8 ∷ []) ≡ ok (bar 1 4 (hit 5 0 70 ∷ []) ∷ bar 2 4 (hit 5 1 9 ∷ hit 6 1 8 ∷ []) ∷ []))
-      × (saved 2 4 (5 ∷ 6 ∷ []) (3 ∷ 0 ∷ []) (9 ∷ 8 ∷ []) ≡ ok (bar 1 4 (hit 5 0 70 ∷ []) ∷ bar 2 4 (hit 5 3 9 ∷ hit 6 0 8 ∷ []) ∷ []))
+      (saved 2 4 (5 ∷ 6 ∷ []) (1 ∷ 1 ∷ []) (9 ∷ 8 ∷ []) ≡ Ok (bar 1 4 (hit 5 0 70 ∷ []) ∷ bar 2 4 (hit 5 1 9 ∷ hit 6 1 8 ∷ []) ∷ []))
+      × (saved 2 4 (5 ∷ 6 ∷ []) (3 ∷ 0 ∷ []) (9 ∷ 8 ∷ []) ≡ Ok (bar 1 4 (hit 5 0 70 ∷ []) ∷ bar 2 4 (hit 5 3 9 ∷ hit 6 0 8 ∷ []) ∷ []))
   unfolding recording
   sound_rises = (rw n refl, rw n refl)
 
@@ -119,7 +118,7 @@ module _ (rest : List ℕ) (n : length (pad_of_1 rest) ≡ 17154) where
 
   -- 4 in a bar of 4 steps, and 3. Fails: `<=` for `<`, `<` against the length less one
   step_4 : (saved 2 4 (5 ∷ []) (4 ∷ []) (1 ∷ []) ≡ refused 6 21 0)
-      × (saved 2 4 (5 ∷ []) (3 ∷ []) (1 ∷ []) ≡ ok (bar 1 4 (hit 5 0 70 ∷ []) ∷ bar 2 4 (hit 5 3 1 ∷ []) ∷ []))
+      × (saved 2 4 (5 ∷ []) (3 ∷ []) (1 ∷ []) ≡ Ok (bar 1 4 (hit 5 0 70 ∷ []) ∷ bar 2 4 (hit 5 3 1 ∷ []) ∷ []))
   unfolding recording
   step_4 = (rw n refl, rw n refl)
 
@@ -131,34 +130,34 @@ module _ (rest : List ℕ) (n : length (pad_of_1 rest) ≡ 17154) where
 -- ---- 19, last, by the two numbers alone: of whatever map has so many bars or hits and lacks the id
 
 -- 255 bars: one more; 256: not one without hits. Fails: `<=` for `<` at 256, a bar without hits let in
-bars_256 : (bars : List Bar) → lookup bars 9 ≡ none → hits_in_all bars ≡ 0
-    → (length bars ≡ 255 → save bars 9 0 [] [] [] ≡ ok (insert (bar 9 0 []) bars))
+bars_256 : (bars : List Bar) → lookup bars 9 ≡ None → hits_in_all bars ≡ 0
+    → (length bars ≡ 255 → save bars 9 0 [] [] [] ≡ Ok (insert (bar 9 0 []) bars))
     × (length bars ≡ 256 → save bars 9 0 [] [] [] ≡ refused 19 0 0)
 unfolding mapping
 bars_256 bars l h = (λ n. rw (l, n, h) refl, λ n. rw (l, n) refl)
 
 -- 8,191 hits: one more, not two. Fails: a limit of one less, of the hits held before
-hits_8192 : (bars : List Bar) → lookup bars 9 ≡ none → length bars ≡ 1 → hits_in_all bars ≡ 8191
-    → (save bars 9 4 (5 ∷ []) (0 ∷ []) (1 ∷ []) ≡ ok (insert (bar 9 4 (hit 5 0 1 ∷ [])) bars))
+hits_8192 : (bars : List Bar) → lookup bars 9 ≡ None → length bars ≡ 1 → hits_in_all bars ≡ 8191
+    → (save bars 9 4 (5 ∷ []) (0 ∷ []) (1 ∷ []) ≡ Ok (insert (bar 9 4 (hit 5 0 1 ∷ [])) bars))
     × (save bars 9 4 (5 ∷ 5 ∷ []) (0 ∷ 1 ∷ []) (1 ∷ 2 ∷ []) ≡ refused 19 0 0)
 unfolding mapping
 hits_8192 bars l n h = (rw (l, n, h) refl, rw (l, n, h) refl)
 
 -- 8,192 hits: a bar without hits still. Fails: `<` for `<=`
-hits_full : (bars : List Bar) → lookup bars 9 ≡ none → length bars ≡ 255 → hits_in_all bars ≡ 8192
-    → (save bars 9 4 [] [] [] ≡ ok (insert (bar 9 4 []) bars)) × (save bars 9 4 (5 ∷ []) (0 ∷ []) (1 ∷ []) ≡ refused 19 0 0)
+hits_full : (bars : List Bar) → lookup bars 9 ≡ None → length bars ≡ 255 → hits_in_all bars ≡ 8192
+    → (save bars 9 4 [] [] [] ≡ Ok (insert (bar 9 4 []) bars)) × (save bars 9 4 (5 ∷ []) (0 ∷ []) (1 ∷ []) ≡ refused 19 0 0)
 unfolding mapping
 hits_full bars l n h = (rw (l, n, h) refl, rw (l, n, h) refl)
 
 -- a bar of 8,192 hits within the rules is saved in an empty pad; of 8,193 it is 19. Fails: 12, a limit on the hits of one bar
-one_bar : (ss ts vs : List ℕ) → check_hits 64 ss ts vs ≡ ok tt
-    → (length ss ≡ 8192 → save [] 9 64 ss ts vs ≡ ok (bar 9 64 (hits_in ss ts vs) ∷ []))
+one_bar : (ss ts vs : List ℕ) → check_hits 64 ss ts vs ≡ Ok tt
+    → (length ss ≡ 8192 → save [] 9 64 ss ts vs ≡ Ok (bar 9 64 (hits_in ss ts vs) ∷ []))
     × (length ss ≡ 8193 → save [] 9 64 ss ts vs ≡ refused 19 0 0)
 unfolding lookup insert save
 one_bar ss ts vs c = (λ n. rw (c, n) refl, λ n. rw (c, n) refl)
 
 -- in a full pad every fault comes first: 11, 12, 22, 6 20, 6 21. Fails: 19
-full_last : (bars : List Bar) → lookup bars 9 ≡ none → length bars ≡ 256
+full_last : (bars : List Bar) → lookup bars 9 ≡ None → length bars ≡ 256
     → (save bars 9 4 (5 ∷ []) [] [] ≡ refused 11 0 0)
     × (save bars 9 4 (128 ∷ []) (0 ∷ []) (1 ∷ []) ≡ refused 12 0 0)
     × (save bars 9 4 (5 ∷ []) (0 ∷ []) (0 ∷ []) ≡ refused 22 0 0)

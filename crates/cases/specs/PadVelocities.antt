@@ -1,16 +1,14 @@
 -- Velocities on the pad (document 02, wish 9): a third list, from 1 to 127; 22 comes after sounds and before hit order. A hit's first word
 -- is sound + 256 * velocity.
-use Rattle.std.specs.Prelude.{ℕ, ◌≡◌, List, [], ◌∷◌, ◌++◌, length, replicate, drop}
+use Rattle.cases.specs.Digits.{refusal_of, refused}
+use Rattle.std.specs.Prelude.{Err, Ok, ℕ, ◌≡◌, List, [], ◌∷◌, ◌++◌, length, replicate, drop}
 use Rattle.std.proofs.Math.Path.{refl}
-use Rattle.segment.specs.Results.{Result, ok}
-use Rattle.segment.specs.declared.replies.Counted.TheVariants as counted
-use Rattle.segment.specs.declared.replies.BarRead.TheVariants as back
+use Rattle.segment.specs.Results.{Answer}
 use Rattle.pad_map.specs.Bars.{Bar, hit, bar}
 use Rattle.pad_words.specs.Calls.{pad_save, pad_erase, pad_read, pad_write}
 use Rattle.pad_read.specs.Promise.{BarReadBack}
 use Rattle.pad_read.specs.Counter.{pad_hits}
 use Rattle.cases.specs.Through.{recording, writing_out}
-use Rattle.cases.specs.Sealing.{refused}
 use Rattle.cases.specs.Segments.{kick, snare, segment_of_two}
 use Rattle.cases.specs.PadMade.{pad_of_1, pad_of_two, Holds, Saves, Erases}
 
@@ -21,7 +19,7 @@ accents rest = 1 ∷ 2 ∷ 1 ∷ 8 ∷ 2 ∷ 32548 ∷ 0 ∷ 292 ∷ 4 ∷ rest
 
 -- Fails: velocity in the step's word, or in a word of its own; the first hit's velocity for all, velocities from the last hit on
 saved_1 : (rest : List ℕ) → length (0 ∷ 0 ∷ rest) ≡ 17154
-    → Saves (0 ∷ 0 ∷ rest) 1 8 (36 ∷ 36 ∷ []) (0 ∷ 4 ∷ []) (127 ∷ 1 ∷ []) (counted.Count 2) (accents (drop 7 rest))
+    → Saves (0 ∷ 0 ∷ rest) 1 8 (36 ∷ 36 ∷ []) (0 ∷ 4 ∷ []) (127 ∷ 1 ∷ []) (Ok 2) (accents (drop 7 rest))
 unfolding recording
 saved_1 rest n = (rw n refl, rw n refl)
 
@@ -46,7 +44,7 @@ segment_of_1 =
 
 module _ (rest : List ℕ) (n : length (accents rest) ≡ 17154) where
   -- velocity 0: refused, and every word stays. Fails: 0 taken for a hit that is not there, or for a velocity that is not given
-  silent : Saves (accents rest) 2 8 (36 ∷ []) (0 ∷ []) (0 ∷ []) (counted.Refused (record { kind = 22; which = 0; index = 0 }))
+  silent : Saves (accents rest) 2 8 (36 ∷ []) (0 ∷ []) (0 ∷ []) (Err (refusal_of 22 0 0))
       (accents rest)
   unfolding recording
   silent = (rw n refl, rw n refl)
@@ -69,7 +67,7 @@ module _ (rest : List ℕ) (n : length (accents rest) ≡ 17154) where
 
   -- one place for velocities: 13 3, and the three lists stay. Fails: sounds and steps filled, as many velocities as go, 13 2
   no_room : BarReadBack (accents rest) 1 (replicate 2 0xAA) (replicate 2 0xAA) (replicate 1 0xAA)
-      (back.Refused (record { kind = 13; which = 3; index = 2 }))
+      (Err (refusal_of 13 3 2))
       (replicate 2 0xAA)
       (replicate 2 0xAA)
       (replicate 1 0xAA)
@@ -77,7 +75,7 @@ module _ (rest : List ℕ) (n : length (accents rest) ≡ 17154) where
   no_room = record { reply = rw n refl; sounds_left = rw n refl; steps_left = rw n refl; velocities_left = rw n refl }
 
   -- Fails: velocities exchanged, a velocity left in the sound
-  read_back : BarReadBack (accents rest) 1 (replicate 2 0xAA) (replicate 2 0xAA) (replicate 2 0xAA) (back.Bar 2 8)
+  read_back : BarReadBack (accents rest) 1 (replicate 2 0xAA) (replicate 2 0xAA) (replicate 2 0xAA) (Ok (record { hits = 2; len = 8 }))
       (36 ∷ 36 ∷ [])
       (0 ∷ 4 ∷ [])
       (127 ∷ 1 ∷ [])
@@ -93,19 +91,19 @@ module _ (rest : List ℕ) (n : length (accents rest) ≡ 17154) where
 
   -- 114 bytes, without velocities: one place less, exactly as many. Fails: velocities among the positions
   written : (pad_write (accents rest) kick kick_ends 113 ≡ refused 13 1 114)
-      × (pad_write (accents rest) kick kick_ends 114 ≡ ok segment_of_1)
+      × (pad_write (accents rest) kick kick_ends 114 ≡ Ok segment_of_1)
   unfolding writing_out
   written = (rw n refl, rw n refl)
 
 -- ---- saving into a pad that holds bar 1
 
 module _ (rest : List ℕ) (n : length (pad_of_1 rest) ≡ 17154) where
-  abbrev saved : (id len : ℕ) (sounds steps velocities : List ℕ) → Result (List Bar)
+  abbrev saved : (id len : ℕ) (sounds steps velocities : List ℕ) → Answer (List Bar)
   saved = pad_save (pad_of_1 rest)
 
   -- 1 and 127. Fails: a range from 2 on, up to 126
   range : saved 2 4 (5 ∷ 5 ∷ []) (0 ∷ 1 ∷ []) (1 ∷ 127 ∷ [])
-      ≡ ok (bar 1 4 (hit 5 0 70 ∷ []) ∷ bar 2 4 (hit 5 0 1 ∷ hit 5 1 127 ∷ []) ∷ [])
+      ≡ Ok (bar 1 4 (hit 5 0 70 ∷ []) ∷ bar 2 4 (hit 5 0 1 ∷ hit 5 1 127 ∷ []) ∷ [])
   unfolding recording
   range = rw n refl
 
@@ -170,7 +168,7 @@ abbrev Breaks : (word : ℕ) → Type 0
 Breaks w = Holds (with_words w 262) (refused 20 0 0) × Holds (with_words 262 w) (refused 20 0 0)
 
 -- 5 with velocity 1, 6 with 127. Fails: a range from 2 on, up to 126, a velocity that is read from the step's word
-held_range : Holds (with_words 261 32518) (ok (bar 3 4 (hit 5 0 1 ∷ []) ∷ bar 7 4 (hit 5 1 1 ∷ hit 6 2 127 ∷ []) ∷ []))
+held_range : Holds (with_words 261 32518) (Ok (bar 3 4 (hit 5 0 1 ∷ []) ∷ bar 7 4 (hit 5 1 1 ∷ hit 6 2 127 ∷ []) ∷ []))
 unfolding recording
 held_range rest n = rw n refl
 
@@ -200,7 +198,7 @@ unfolding recording
 held_twice = (λ rest n. rw n refl, λ rest n. rw n refl)
 
 -- a sound that rises, and falls in velocity; a sound that falls, and rises in velocity. Fails: the order by words
-sounds_by_number : Holds (1 ∷ 2 ∷ 3 ∷ 4 ∷ 2 ∷ 517 ∷ 1 ∷ 262 ∷ 0 ∷ []) (ok (bar 3 4 (hit 5 1 2 ∷ hit 6 0 1 ∷ []) ∷ []))
+sounds_by_number : Holds (1 ∷ 2 ∷ 3 ∷ 4 ∷ 2 ∷ 517 ∷ 1 ∷ 262 ∷ 0 ∷ []) (Ok (bar 3 4 (hit 5 1 2 ∷ hit 6 0 1 ∷ []) ∷ []))
     × Holds (1 ∷ 2 ∷ 3 ∷ 4 ∷ 2 ∷ 262 ∷ 0 ∷ 517 ∷ 1 ∷ []) (refused 20 0 0)
 unfolding recording
 sounds_by_number = (λ rest n. rw n refl, λ rest n. rw n refl)
@@ -215,7 +213,7 @@ without_velocities rest n = rw n refl
 
 -- bars without hits go on, and take hits. Fails: 20
 bars_without_hits : (rest : List ℕ) → length (2 ∷ 0 ∷ 3 ∷ 16 ∷ 0 ∷ 7 ∷ 16 ∷ 0 ∷ rest) ≡ 17154
-    → Saves (2 ∷ 0 ∷ 3 ∷ 16 ∷ 0 ∷ 7 ∷ 16 ∷ 0 ∷ rest) 5 4 (36 ∷ []) (2 ∷ []) (100 ∷ []) (counted.Count 1)
+    → Saves (2 ∷ 0 ∷ 3 ∷ 16 ∷ 0 ∷ 7 ∷ 16 ∷ 0 ∷ rest) 5 4 (36 ∷ []) (2 ∷ []) (100 ∷ []) (Ok 1)
     (3 ∷ 1 ∷ 3 ∷ 16 ∷ 0 ∷ 5 ∷ 4 ∷ 1 ∷ 25636 ∷ 2 ∷ 7 ∷ 16 ∷ 0 ∷ drop 5 rest)
 unfolding recording
 bars_without_hits rest n = (rw n refl, rw n refl)
@@ -235,14 +233,14 @@ every_call rest n = (rw n refl, rw n refl, rw n refl, rw n refl, refl)
 
 -- bar 7 moves down. Fails: sounds moved without velocities, velocities that stay with the place
 moved_down : (rest : List ℕ) → length (2 ∷ 3 ∷ 3 ∷ 4 ∷ 1 ∷ 32548 ∷ 0 ∷ 7 ∷ 4 ∷ 2 ∷ 292 ∷ 1 ∷ 16422 ∷ 2 ∷ rest) ≡ 17154
-    → Erases (2 ∷ 3 ∷ 3 ∷ 4 ∷ 1 ∷ 32548 ∷ 0 ∷ 7 ∷ 4 ∷ 2 ∷ 292 ∷ 1 ∷ 16422 ∷ 2 ∷ rest) 3 (counted.Count 1)
+    → Erases (2 ∷ 3 ∷ 3 ∷ 4 ∷ 1 ∷ 32548 ∷ 0 ∷ 7 ∷ 4 ∷ 2 ∷ 292 ∷ 1 ∷ 16422 ∷ 2 ∷ rest) 3 (Ok 1)
     (1 ∷ 2 ∷ 7 ∷ 4 ∷ 2 ∷ 292 ∷ 1 ∷ 16422 ∷ 2 ∷ 2 ∷ 292 ∷ 1 ∷ 16422 ∷ 2 ∷ rest)
 unfolding recording
 moved_down rest n = (rw n refl, rw n refl)
 
 -- bar 7 moves up, to make room for bar 3. Fails: bar 3's velocity for the hits behind it, velocities that stay with the place
 moved_up : (rest : List ℕ) → length (1 ∷ 2 ∷ 7 ∷ 4 ∷ 2 ∷ 292 ∷ 1 ∷ 16422 ∷ 2 ∷ rest) ≡ 17154
-    → Saves (1 ∷ 2 ∷ 7 ∷ 4 ∷ 2 ∷ 292 ∷ 1 ∷ 16422 ∷ 2 ∷ rest) 3 4 (36 ∷ []) (0 ∷ []) (127 ∷ []) (counted.Count 1)
+    → Saves (1 ∷ 2 ∷ 7 ∷ 4 ∷ 2 ∷ 292 ∷ 1 ∷ 16422 ∷ 2 ∷ rest) 3 4 (36 ∷ []) (0 ∷ []) (127 ∷ []) (Ok 1)
     (2 ∷ 3 ∷ 3 ∷ 4 ∷ 1 ∷ 32548 ∷ 0 ∷ 7 ∷ 4 ∷ 2 ∷ 292 ∷ 1 ∷ 16422 ∷ 2 ∷ drop 5 rest)
 unfolding recording
 moved_up rest n = (rw n refl, rw n refl)
@@ -252,7 +250,7 @@ moved_up rest n = (rw n refl, rw n refl)
 -- document 01's two bars with velocity 1 in all hits, and as they are in the other cases. Fails: a velocity written, quiet hits left out
 written_alike : (rest : List ℕ) → length (pad_of_two rest) ≡ 17154
     → (pad_write (2 ∷ 8 ∷ 3 ∷ 16 ∷ 5 ∷ 292 ∷ 0 ∷ 292 ∷ 4 ∷ 292 ∷ 15 ∷ 294 ∷ 8 ∷ 294 ∷ 14
-    ∷ 7 ∷ 16 ∷ 3 ∷ 292 ∷ 2 ∷ 294 ∷ 3 ∷ 294 ∷ 4 ∷ rest) (kick ++ snare) (replicate 36 0 ++ 4 ∷ 4 ∷ replicate 90 9) 165 ≡ ok segment_of_two)
-    × (pad_write (pad_of_two rest) (kick ++ snare) (replicate 36 0 ++ 4 ∷ 4 ∷ replicate 90 9) 165 ≡ ok segment_of_two)
+    ∷ 7 ∷ 16 ∷ 3 ∷ 292 ∷ 2 ∷ 294 ∷ 3 ∷ 294 ∷ 4 ∷ rest) (kick ++ snare) (replicate 36 0 ++ 4 ∷ 4 ∷ replicate 90 9) 165 ≡ Ok segment_of_two)
+    × (pad_write (pad_of_two rest) (kick ++ snare) (replicate 36 0 ++ 4 ∷ 4 ∷ replicate 90 9) 165 ≡ Ok segment_of_two)
 unfolding writing_out
 written_alike rest n = (rw n refl, rw n refl)

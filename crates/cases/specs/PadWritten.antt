@@ -1,9 +1,8 @@
 -- The pad written out (document 02, wish 6): bars by rising id, sounds by rising number, under the names that are handed in then. Bars 3
 -- and 7 have sounds 36 and 38, which give document 01's segment of 165 bytes where these are kick and snare.
-use Rattle.std.specs.Prelude.{ℕ, ◌≡◌, List, [], ◌∷◌, ◌++◌, length, replicate}
+use Rattle.cases.specs.Digits.{refusal_of, refused}
+use Rattle.std.specs.Prelude.{Err, Ok, ℕ, ◌≡◌, List, [], ◌∷◌, ◌++◌, length, replicate}
 use Rattle.std.proofs.Math.Path.{refl}
-use Rattle.segment.specs.Results.{ok}
-use Rattle.segment.specs.declared.replies.Written.TheVariants as written
 use Rattle.segment.specs.Texts.{names}
 use Rattle.calls.specs.Given.{laid_flat}
 use Rattle.pad_map.specs.Bars.{hit, bar}
@@ -11,7 +10,6 @@ use Rattle.pad_map.specs.Acts.{given_of}
 use Rattle.pad_words.specs.Calls.{pad_write}
 use Rattle.pad_write.specs.Promise.{PadWritten}
 use Rattle.cases.specs.Through.{writing_out}
-use Rattle.cases.specs.Sealing.{refused}
 use Rattle.cases.specs.Segments.{kick, snare, a, b, two_documents, segment_of_two}
 use Rattle.cases.specs.PadMade.{empty, two_bars, pad_of_two}
 
@@ -57,7 +55,7 @@ unfolding writing_out
 some_bars = refl
 
 -- the empty pad: the empty segment. Fails: 11, a refusal of nothing
-empty_out : pad_write empty [] (replicate 128 0) 72 ≡ ok (0x50 ∷ 0x53 ∷ 0x54 ∷ 0x50 ∷ 0x30 ∷ 0x30 ∷ 0x30 ∷ 0x31 ∷ 0x02 ∷ replicate 63 0x00)
+empty_out : pad_write empty [] (replicate 128 0) 72 ≡ Ok (0x50 ∷ 0x53 ∷ 0x54 ∷ 0x50 ∷ 0x30 ∷ 0x30 ∷ 0x30 ∷ 0x31 ∷ 0x02 ∷ replicate 63 0x00)
 unfolding writing_out
 empty_out = refl
 
@@ -85,19 +83,19 @@ ends_shape = (refl, refl, refl)
 
 module _ (rest : List ℕ) (n : length (pad_of_two rest) ≡ 17154) where
   -- room for exactly the bytes. Fails: 13 while places suffice, bar 7 before bar 3
-  two_out : pad_write (pad_of_two rest) (kick ++ snare) (two_ends 4 9) 165 ≡ ok segment_of_two
+  two_out : pad_write (pad_of_two rest) (kick ++ snare) (two_ends 4 9) 165 ≡ Ok segment_of_two
   unfolding writing_out
   two_out = rw n refl
 
   -- two places more stay as they were. Fails: a tail cleared
-  two_left : PadWritten (pad_of_two rest) (kick ++ snare) (two_ends 4 9) (replicate 167 0xAA) (written.Length 165)
+  two_left : PadWritten (pad_of_two rest) (kick ++ snare) (two_ends 4 9) (replicate 167 0xAA) (Ok 165)
       (segment_of_two ++ 0xAA ∷ 0xAA ∷ [])
   unfolding writing_out
   two_left = record { reply = rw n refl; left = rw n refl }
 
   -- 13: out is buffer 1, the pad is none. Fails: 13 2, bytes stored as far as they go
   two_short : PadWritten (pad_of_two rest) (kick ++ snare) (two_ends 4 9) (replicate 164 0xAA)
-      (written.Refused (record { kind = 13; which = 1; index = 165 }))
+      (Err (refusal_of 13 1 165))
       (replicate 164 0xAA)
   unfolding writing_out
   two_short = record { reply = rw n refl; left = rw n refl }

@@ -1,11 +1,10 @@
 -- A question's refusals: it "checks 12, 11, 10, opens the segment, decodes every different sound in the order named, then tests 13".
 -- Where a case has two faults, the first of them stands. (12 is in TooLarge.antt.)
-use Rattle.std.specs.Prelude.{◌≡◌, refl, [], ◌∷◌, ◌++◌}
-use Rattle.segment.specs.Results.{ok}
+use Rattle.std.specs.Prelude.{Ok, ◌≡◌, refl, [], ◌∷◌, ◌++◌}
 use Rattle.rules.specs.declared.rule.Rule.TheVariants.{Phrase, Ordered, Unordered}
 use Rattle.calls.specs.Questions.{search_text, search_two}
 use Rattle.cases.specs.Through.{asking}
-use Rattle.cases.specs.Sealing.{refused}
+use Rattle.cases.specs.Digits.{refused}
 use Rattle.cases.specs.Segments.{a, b, segment_of_same_step}
 use Rattle.cases.specs.Faulty.{two_faults, late_fault, wrong_checksum}
 
@@ -69,7 +68,7 @@ unfolding asking
 near_match_second = refl
 
 -- an empty questioned name passes, and is absent. Fails: 6 6 0, an absent sound left out
-empty_name : search_text segment_of_same_step Phrase (0x61 ∷ []) (0 ∷ 1 ∷ []) 9 ≡ ok []
+empty_name : search_text segment_of_same_step Phrase (0x61 ∷ []) (0 ∷ 1 ∷ []) 9 ≡ Ok []
 unfolding asking
 empty_name = refl
 
@@ -170,42 +169,42 @@ list_checksum = refl
 -- ---- idle questions decode nothing, and need no room
 
 -- a phrase of no sounds. Fails: 13, every bar
-idle_phrase : search_text two_faults Phrase [] [] 0 ≡ ok []
+idle_phrase : search_text two_faults Phrase [] [] 0 ≡ Ok []
 unfolding asking
 idle_phrase = refl
 
 -- a near question of one sound. Fails: 7
-idle_ordered : search_text two_faults (Ordered 1) (0x61 ∷ []) (1 ∷ []) 0 ≡ ok []
+idle_ordered : search_text two_faults (Ordered 1) (0x61 ∷ []) (1 ∷ []) 0 ≡ Ok []
 unfolding asking
 idle_ordered = refl
 
 -- in any order. Fails: 7
-idle_unordered : search_text two_faults (Unordered 1) (0x61 ∷ []) (1 ∷ []) 0 ≡ ok []
+idle_unordered : search_text two_faults (Unordered 1) (0x61 ∷ []) (1 ∷ []) 0 ≡ Ok []
 unfolding asking
 idle_unordered = refl
 
 -- of no sounds. Fails: every bar
-idle_none : search_text two_faults (Unordered 1) [] [] 0 ≡ ok []
+idle_none : search_text two_faults (Unordered 1) [] [] 0 ≡ Ok []
 unfolding asking
 idle_none = refl
 
 -- a window of 0. Fails: 7
-idle_window : search_text two_faults (Ordered 0) (0x61 ∷ 0x62 ∷ []) (1 ∷ 2 ∷ []) 0 ≡ ok []
+idle_window : search_text two_faults (Ordered 0) (0x61 ∷ 0x62 ∷ []) (1 ∷ 2 ∷ []) 0 ≡ Ok []
 unfolding asking
 idle_window = refl
 
 -- in any order. Fails: 7
-idle_window_unordered : search_text two_faults (Unordered 0) (0x61 ∷ 0x62 ∷ []) (1 ∷ 2 ∷ []) 0 ≡ ok []
+idle_window_unordered : search_text two_faults (Unordered 0) (0x61 ∷ 0x62 ∷ []) (1 ∷ 2 ∷ []) 0 ≡ Ok []
 unfolding asking
 idle_window_unordered = refl
 
 -- near_match with a window of 0. Fails: 7
-idle_near_match : search_two two_faults 0 a b 0 ≡ ok []
+idle_near_match : search_two two_faults 0 a b 0 ≡ Ok []
 unfolding asking
 idle_near_match = refl
 
 -- only absent sounds: none. Fails: 10 of kind 6
-only_absent : search_text two_faults Phrase (0x63 ∷ 0x64 ∷ []) (1 ∷ 2 ∷ []) 0 ≡ ok []
+only_absent : search_text two_faults Phrase (0x63 ∷ 0x64 ∷ []) (1 ∷ 2 ∷ []) 0 ≡ Ok []
 unfolding asking
 only_absent = refl
 
@@ -222,6 +221,6 @@ unfolding asking
 no_room = refl
 
 -- no bar and no place. Fails: 13 1 0
-room_for_none : search_text segment_of_same_step (Ordered 1) (0x62 ∷ 0x61 ∷ []) (1 ∷ 2 ∷ []) 0 ≡ ok []
+room_for_none : search_text segment_of_same_step (Ordered 1) (0x62 ∷ 0x61 ∷ []) (1 ∷ 2 ∷ []) 0 ≡ Ok []
 unfolding asking
 room_for_none = refl

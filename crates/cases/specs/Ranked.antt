@@ -1,37 +1,38 @@
 -- The ranked answer (document 02, wish 5), put to document 01's two bars (Written.antt) and to four bars with equal counts: how many are
 -- found, each with its id and the number of its starts, in their order; and the refusals.
-use Rattle.std.specs.Prelude.{ℕ, ◌≡◌, refl, List, [], ◌∷◌, ◌++◌}
+use Rattle.std.specs.Prelude.{Ok, ℕ, ◌≡◌, refl, List, [], ◌∷◌, ◌++◌}
 use Rattle.crc32.specs.Crc32.{crc32_of}
-use Rattle.segment.specs.Results.{Result, ok}
+use Rattle.segment.specs.Results.{Answer}
 use Rattle.calls.specs.Order.{Match, match_of}
 use Rattle.calls.specs.Ranked.{search_ranked}
 use Rattle.cases.specs.Through.{ranking}
-use Rattle.cases.specs.Sealing.{refused, sealed, entry}
+use Rattle.cases.specs.Digits.{refused}
+use Rattle.cases.specs.Sealing.{sealed, entry}
 use Rattle.cases.specs.Segments.{kick, snare, segment_of_two}
 use Rattle.cases.specs.Faulty.{two_faults, wrong_checksum}
 
-abbrev asked : (text ends : List ℕ) → Result (List Match)
+abbrev asked : (text ends : List ℕ) → Answer (List Match)
 asked text ends = search_ranked segment_of_two text ends 2 2
 
 -- ---- the two bars: kick in 3 on 0, 4, 15 and in 7 on 2; snare in 3 on 8, 14 and in 7 on 3, 4
 
 -- kick: 3 hits in bar 3, 1 in bar 7. Fails: the least first
-kick_alone : asked kick (4 ∷ []) ≡ ok (match_of 3 3 ∷ match_of 7 1 ∷ [])
+kick_alone : asked kick (4 ∷ []) ≡ Ok (match_of 3 3 ∷ match_of 7 1 ∷ [])
 unfolding ranking
 kick_alone = refl
 
 -- snare: twice in both: the lower id first. Fails: ties by the higher id
-snare_alone : asked snare (5 ∷ []) ≡ ok (match_of 3 2 ∷ match_of 7 2 ∷ [])
+snare_alone : asked snare (5 ∷ []) ≡ Ok (match_of 3 2 ∷ match_of 7 2 ∷ [])
 unfolding ranking
 snare_alone = refl
 
 -- kick snare: only bar 7, once. Fails: bar 3 listed with 0
-kick_snare : asked (kick ++ snare) (4 ∷ 9 ∷ []) ≡ ok (match_of 7 1 ∷ [])
+kick_snare : asked (kick ++ snare) (4 ∷ 9 ∷ []) ≡ Ok (match_of 7 1 ∷ [])
 unfolding ranking
 kick_snare = refl
 
 -- no sounds: none. Fails: every bar
-no_sounds : asked [] [] ≡ ok []
+no_sounds : asked [] [] ≡ Ok []
 unfolding ranking
 no_sounds = refl
 
@@ -49,13 +50,13 @@ four_bars =
 
 -- a a: bar 1 starts on 0, 1 and 2, the others once each. Fails: starts that overlap counted once, ties by the higher id
 twice_a : search_ranked four_bars (0x61 ∷ 0x61 ∷ []) (1 ∷ 2 ∷ []) 4 4
-    ≡ ok (match_of 1 3 ∷ match_of 2 1 ∷ match_of 4 1 ∷ match_of 9 1 ∷ [])
+    ≡ Ok (match_of 1 3 ∷ match_of 2 1 ∷ match_of 4 1 ∷ match_of 9 1 ∷ [])
 unfolding ranking
 twice_a = refl
 
 -- a: 4, 2, 3 and 4 hits. Fails: ids in the plain answer's order
 once_a : search_ranked four_bars (0x61 ∷ []) (1 ∷ []) 4 4
-    ≡ ok (match_of 1 4 ∷ match_of 9 4 ∷ match_of 4 3 ∷ match_of 2 2 ∷ [])
+    ≡ Ok (match_of 1 4 ∷ match_of 9 4 ∷ match_of 4 3 ∷ match_of 2 2 ∷ [])
 unfolding ranking
 once_a = refl
 
@@ -82,7 +83,7 @@ unfolding ranking
 counts_short = refl
 
 -- nothing found needs no room. Fails: 13
-none_found : search_ranked segment_of_two (kick ++ kick) (4 ∷ 8 ∷ []) 0 0 ≡ ok []
+none_found : search_ranked segment_of_two (kick ++ kick) (4 ∷ 8 ∷ []) 0 0 ≡ Ok []
 unfolding ranking
 none_found = refl
 

@@ -1,12 +1,7 @@
 -- Segments made by hand, for faults that the writer would not write.
 use Rattle.std.specs.Prelude.{ℕ, zero, suc, ◌/◌, ◌%◌, List, [], ◌∷◌, ◌++◌, length}
 use Rattle.crc32.specs.Crc32.{crc32_of}
-use Rattle.segment.specs.Results.{Result, refuse}
 use Rattle.segment.specs.Records.{Document, Posting}
-
--- a refusal: kind, which, index
-abbrev pub refused : {A : Type 0} → (kind which index : ℕ) → Result A
-refused k w i = refuse (record { kind = k; which = w; index = i })
 
 abbrev pub document : (id len : ℕ) → Document
 document i l = record { id = i; len = l }

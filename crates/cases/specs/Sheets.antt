@@ -1,14 +1,13 @@
 -- Sheets of whole segments (document 02, wish 3): what they show, the order of refusals, the lent buffer. Not to be seen from outside, and
 -- so in no case: 16 against 17 (an unknown bar has no length).
-use Rattle.std.specs.Prelude.{ℕ, ◌≡◌, refl, List, [], ◌∷◌, ◌++◌, replicate}
+use Rattle.cases.specs.Digits.{refusal_of, refused}
+use Rattle.std.specs.Prelude.{Err, Ok, ℕ, ◌≡◌, refl, List, [], ◌∷◌, ◌++◌, replicate}
 use Rattle.crc32.specs.Crc32.{crc32_of}
-use Rattle.segment.specs.Results.{ok}
-use Rattle.segment.specs.declared.replies.Counted.TheVariants as counted
 use Rattle.calls.specs.Sheet.{sheet_into}
 use Rattle.show_sheet.specs.Promise.{SheetAnswered}
 use Rattle.cases.specs.Through.{sheet_lines}
 use Rattle.cases.specs.Printed.{page}
-use Rattle.cases.specs.Sealing.{refused, sealed, entry}
+use Rattle.cases.specs.Sealing.{sealed, entry}
 use Rattle.cases.specs.Segments.{segment_of_two, segment_of_spread, segment_of_same_step, segment_of_high}
 use Rattle.cases.specs.Faulty.{two_faults, wrong_checksum}
 
@@ -47,7 +46,7 @@ alpha =
 
 -- bar 3 of the two bars: 243 bytes, the last hit on the last step. Fails: a hit held back, lines without their line feed, a first line of
 -- 20 characters, 13 while places suffice
-bar_3 : sheet_into segment_of_two 3 243 ≡ ok (page (
+bar_3 : sheet_into segment_of_two 3 243 ≡ Ok (page (
     "         3        16                                                            "
     ∷ "kick        o...o..........o                                                   3"
     ∷ "snare       ........o.....o.                                                   2"
@@ -57,7 +56,7 @@ bar_3 = refl
 
 -- bar 7, the second posting of each list; seven places more are unchanged. Fails: each list's first posting, the list's total for the bar's
 -- hits, blanks behind the text
-bar_7 : SheetAnswered segment_of_two 7 (replicate 250 0xAA) (counted.Count 243) (page (
+bar_7 : SheetAnswered segment_of_two 7 (replicate 250 0xAA) (Ok 243) (page (
     "         7        16                                                            "
     ∷ "kick        ..o.............                                                   1"
     ∷ "snare       ...oo...........                                                   2"
@@ -66,7 +65,7 @@ unfolding sheet_lines
 bar_7 = record { reply = refl; left = refl }
 
 -- b is no sound of bar 2. Fails: a line of full stops for b, or for a the count of 4 hits in all bars
-bar_2 : sheet_into segment_of_spread 2 162 ≡ ok (page (
+bar_2 : sheet_into segment_of_spread 2 162 ≡ Ok (page (
     "         2         5                                                            "
     ∷ "a           ....o                                                              1"
     ∷ []))
@@ -74,7 +73,7 @@ unfolding sheet_lines
 bar_2 = refl
 
 -- bar 0; two sounds on one step. Fails: 0 for no bar, a step shown once
-bar_0 : sheet_into segment_of_same_step 0 243 ≡ ok (page (
+bar_0 : sheet_into segment_of_same_step 0 243 ≡ Ok (page (
     "         0         4                                                            "
     ∷ "a           ..o.                                                               1"
     ∷ "b           ..o.                                                               1"
@@ -83,7 +82,7 @@ unfolding sheet_lines
 bar_0 = refl
 
 -- 64 steps are on paper, a hit on the last of them too. Fails: `<` for `<=` at 64, 63 steps drawn
-steps_64 : sheet_into long_and_short 0 162 ≡ ok (page (
+steps_64 : sheet_into long_and_short 0 162 ≡ Ok (page (
     "         0        64                                                            "
     ∷ "a           o..............................................................o   2"
     ∷ []))
@@ -92,12 +91,12 @@ steps_64 = refl
 
 -- no steps: the first line alone. Fails: a line for a, 16 for a bar without steps
 no_steps : sheet_into long_and_short 2 81
-    ≡ ok (page ("         2         0                                                            " ∷ []))
+    ≡ Ok (page ("         2         0                                                            " ∷ []))
 unfolding sheet_lines
 no_steps = refl
 
 -- entries that share their list's bytes are two sounds, with a line each. Fails: each list drawn once
-shared : sheet_into one_list 3 243 ≡ ok (page (
+shared : sheet_into one_list 3 243 ≡ Ok (page (
     "         3         4                                                            "
     ∷ "a           ..o.                                                               1"
     ∷ "b           ..o.                                                               1"
@@ -106,7 +105,7 @@ unfolding sheet_lines
 shared = refl
 
 -- room is in bytes: 81 and 82. Fails: 162 places for 162 characters
-greek : sheet_into alpha 0 163 ≡ ok (page (
+greek : sheet_into alpha 0 163 ≡ Ok (page (
     "         0         4                                                            "
     ∷ "α           .o..                                                               1"
     ∷ []))
@@ -121,7 +120,7 @@ greek_short = refl
 -- ---- 13: the whole sheet, or nothing
 
 -- one place less than bar 3 takes. Fails: lines as far as they go, the places lent as index
-bar_3_short : SheetAnswered segment_of_two 3 (replicate 242 0xAA) (counted.Refused (record { kind = 13; which = 1; index = 243 }))
+bar_3_short : SheetAnswered segment_of_two 3 (replicate 242 0xAA) (Err (refusal_of 13 1 243))
     (replicate 242 0xAA)
 unfolding sheet_lines
 bar_3_short = record { reply = refl; left = refl }
@@ -200,7 +199,7 @@ behind_no_steps = refl
 -- bar 0 has no b, and b's list is refused, before 13 too; the buffer is unchanged. Fails: the bar's sounds alone decoded, 13, a's line
 -- drawn before b's list is decoded
 other_sound : (sheet_into other_fault 0 0 ≡ refused 6 14 0)
-    × SheetAnswered other_fault 0 (replicate 200 0xAA) (counted.Refused (record { kind = 6; which = 14; index = 0 })) (replicate 200 0xAA)
+    × SheetAnswered other_fault 0 (replicate 200 0xAA) (Err (refusal_of 6 14 0)) (replicate 200 0xAA)
 unfolding sheet_lines
 other_sound = (refl, record { reply = refl; left = refl })
 

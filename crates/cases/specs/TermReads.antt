@@ -1,58 +1,55 @@
 -- The calls on terms, put to a segment of three documents and two terms: a in 2 on 4 and in 70000 on 0, 5, 4095; b in 9 on 7; and to one
 -- with hat in 9 on 0, 128, 299. A lent buffer keeps its places past the answer, and all of them after a refusal.
-use Rattle.std.specs.Prelude.{◌≡◌, refl, [], ◌∷◌, ◌++◌}
-use Rattle.segment.specs.Results.{ok}
-use Rattle.segment.specs.declared.replies.Counted.TheVariants as counted
-use Rattle.segment.specs.declared.replies.DocFreq.TheVariants as frequency
-use Rattle.segment.specs.declared.replies.TermTotals.TheVariants as listed
+use Rattle.cases.specs.Digits.{refusal_of, refused}
+use Rattle.std.specs.Prelude.{Err, Ok, ◌≡◌, refl, [], ◌∷◌, ◌++◌}
 use Rattle.calls.specs.Reads.{df, docs_with_term, term_postings, positions}
 use Rattle.read_terms.specs.Promise.{DocsAnswered}
 use Rattle.calls.specs.Replies.{df_answer}
 use Rattle.read_positions.specs.Promise.{PostingsAnswered, PositionsAnswered}
 use Rattle.cases.specs.Through.{calling}
-use Rattle.cases.specs.Sealing.{refused, posting}
+use Rattle.cases.specs.Sealing.{posting}
 use Rattle.cases.specs.Segments.{hat, a, b, segment_of_uneven, segment_of_spread}
 use Rattle.cases.specs.Faulty.{two_faults, late_fault, large_df, wrong_checksum}
 
 -- ---- df: what is stored, no list decoded
 
 -- one bar of three. Fails: the number of bars, of positions
-df_hat : df segment_of_uneven hat ≡ ok 1
+df_hat : df segment_of_uneven hat ≡ Ok 1
 unfolding calling
 df_hat = refl
 
 -- two. Fails: another entry's
-df_a : df segment_of_spread a ≡ ok 2
+df_a : df segment_of_spread a ≡ Ok 2
 unfolding calling
 df_a = refl
 
 -- one. Fails: the first entry's
-df_b : df segment_of_spread b ≡ ok 1
+df_b : df segment_of_spread b ≡ Ok 1
 unfolding calling
 df_b = refl
 
 -- an unknown sound has df 0: ha. Fails: a beginning found
-df_beginning : df segment_of_uneven (0x68 ∷ 0x61 ∷ []) ≡ ok 0
+df_beginning : df segment_of_uneven (0x68 ∷ 0x61 ∷ []) ≡ Ok 0
 unfolding calling
 df_beginning = refl
 
 -- hats. Fails: a name found in what it begins
-df_longer : df segment_of_uneven (hat ++ 0x73 ∷ []) ≡ ok 0
+df_longer : df segment_of_uneven (hat ++ 0x73 ∷ []) ≡ Ok 0
 unfolding calling
 df_longer = refl
 
 -- the empty name is a name like another. Fails: 6 6 0, the first entry's
-df_empty : df segment_of_uneven [] ≡ ok 0
+df_empty : df segment_of_uneven [] ≡ Ok 0
 unfolding calling
 df_empty = refl
 
 -- df 2^32 - 1 over one posting. Fails: the postings counted, the list decoded
-df_largest : df large_df a ≡ ok 4294967295
+df_largest : df large_df a ≡ Ok 4294967295
 unfolding calling
 df_largest = refl
 
 -- a list that does not decode. Fails: 7
-df_undecoded : df two_faults a ≡ ok 1
+df_undecoded : df two_faults a ≡ Ok 1
 unfolding calling
 df_undecoded = refl
 
@@ -62,24 +59,24 @@ unfolding calling
 df_name_first = refl
 
 -- as replies. Fails: 0 for known
-df_reply : df_answer (df segment_of_spread a) ≡ frequency.Df 2
+df_reply : df_answer (df segment_of_spread a) ≡ Ok 2
 unfolding calling
 df_reply = refl
 
 -- ---- docs_with_term: ids
 
 -- ids, not gaps. Fails: 69998, places past the answer cleared
-docs : DocsAnswered segment_of_spread a (90 ∷ 91 ∷ 92 ∷ []) (counted.Count 2) (2 ∷ 70000 ∷ 92 ∷ [])
+docs : DocsAnswered segment_of_spread a (90 ∷ 91 ∷ 92 ∷ []) (Ok 2) (2 ∷ 70000 ∷ 92 ∷ [])
 unfolding calling
 docs = record { reply = refl; ids_left = refl }
 
 -- 13. Fails: `<=` at the room, ids as far as they go
-docs_short : DocsAnswered segment_of_spread a (90 ∷ []) (counted.Refused (record { kind = 13; which = 1; index = 2 })) (90 ∷ [])
+docs_short : DocsAnswered segment_of_spread a (90 ∷ []) (Err (refusal_of 13 1 2)) (90 ∷ [])
 unfolding calling
 docs_short = record { reply = refl; ids_left = refl }
 
 -- an unknown sound has no postings, and needs no room. Fails: an unknown sound refused
-docs_unknown : docs_with_term segment_of_spread hat 0 ≡ ok []
+docs_unknown : docs_with_term segment_of_spread hat 0 ≡ Ok []
 unfolding calling
 docs_unknown = refl
 
@@ -112,7 +109,7 @@ docs_df = refl
 
 -- two postings, four positions. Fails: the first posting's alone, gaps for positions, counts for ids
 postings : PostingsAnswered segment_of_spread a (90 ∷ 91 ∷ 92 ∷ []) (80 ∷ 81 ∷ 82 ∷ []) (70 ∷ 71 ∷ 72 ∷ 73 ∷ 74 ∷ [])
-    (listed.Totals (record { postings = 2; positions = 4 })) (2 ∷ 70000 ∷ 92 ∷ []) (1 ∷ 3 ∷ 82 ∷ []) (4 ∷ 0 ∷ 5 ∷ 4095 ∷ 74 ∷ [])
+    (Ok (record { postings = 2; positions = 4 })) (2 ∷ 70000 ∷ 92 ∷ []) (1 ∷ 3 ∷ 82 ∷ []) (4 ∷ 0 ∷ 5 ∷ 4095 ∷ 74 ∷ [])
 unfolding calling
 postings = record { reply = refl; ids_left = refl; counts_left = refl; positions_left = refl }
 
@@ -128,12 +125,12 @@ postings_2 = refl
 
 -- positions one short: no buffer is filled. Fails: 13 by the number of postings, two filled before the third is tested
 postings_3 : PostingsAnswered segment_of_spread a (90 ∷ 91 ∷ []) (80 ∷ 81 ∷ []) (70 ∷ 71 ∷ 72 ∷ [])
-    (listed.Refused (record { kind = 13; which = 3; index = 4 })) (90 ∷ 91 ∷ []) (80 ∷ 81 ∷ []) (70 ∷ 71 ∷ 72 ∷ [])
+    (Err (refusal_of 13 3 4)) (90 ∷ 91 ∷ []) (80 ∷ 81 ∷ []) (70 ∷ 71 ∷ 72 ∷ [])
 unfolding calling
 postings_3 = record { reply = refl; ids_left = refl; counts_left = refl; positions_left = refl }
 
 -- one posting of three positions, in exactly that room. Fails: 13 while places suffice
-postings_uneven : term_postings segment_of_uneven hat 1 1 3 ≡ ok (posting 9 (0 ∷ 128 ∷ 299 ∷ []) ∷ [])
+postings_uneven : term_postings segment_of_uneven hat 1 1 3 ≡ Ok (posting 9 (0 ∷ 128 ∷ 299 ∷ []) ∷ [])
 unfolding calling
 postings_uneven = refl
 
@@ -143,7 +140,7 @@ unfolding calling
 postings_uneven_3 = refl
 
 -- an unknown sound. Fails: an unknown sound refused
-postings_unknown : term_postings segment_of_uneven a 0 0 0 ≡ ok []
+postings_unknown : term_postings segment_of_uneven a 0 0 0 ≡ Ok []
 unfolding calling
 postings_unknown = refl
 
@@ -160,33 +157,33 @@ postings_list_first = refl
 -- ---- positions: one buffer
 
 -- those of the bar that is named. Fails: the whole list's, the first bar's
-steps : PositionsAnswered segment_of_spread a 70000 (90 ∷ 91 ∷ 92 ∷ 93 ∷ []) (counted.Count 3) (0 ∷ 5 ∷ 4095 ∷ 93 ∷ [])
+steps : PositionsAnswered segment_of_spread a 70000 (90 ∷ 91 ∷ 92 ∷ 93 ∷ []) (Ok 3) (0 ∷ 5 ∷ 4095 ∷ 93 ∷ [])
 unfolding calling
 steps = record { reply = refl; positions_left = refl }
 
 -- 13 by that bar's count. Fails: by the list's total, 4
-steps_short : PositionsAnswered segment_of_spread a 70000 (90 ∷ 91 ∷ []) (counted.Refused (record { kind = 13; which = 1; index = 3 }))
+steps_short : PositionsAnswered segment_of_spread a 70000 (90 ∷ 91 ∷ []) (Err (refusal_of 13 1 3))
     (90 ∷ 91 ∷ [])
 unfolding calling
 steps_short = record { reply = refl; positions_left = refl }
 
 -- the first bar's, in exactly that room. Fails: 13 by the list's total
-steps_first : positions segment_of_spread a 2 1 ≡ ok (4 ∷ [])
+steps_first : positions segment_of_spread a 2 1 ≡ Ok (4 ∷ [])
 unfolding calling
 steps_first = refl
 
 -- a bar without the sound: none. Fails: the next bar's
-steps_none : positions segment_of_spread a 9 0 ≡ ok []
+steps_none : positions segment_of_spread a 9 0 ≡ Ok []
 unfolding calling
 steps_none = refl
 
 -- an unknown bar: none. Fails: 10 of kind 6
-steps_unknown : positions segment_of_spread a 3 0 ≡ ok []
+steps_unknown : positions segment_of_spread a 3 0 ≡ Ok []
 unfolding calling
 steps_unknown = refl
 
 -- an unknown sound: none. Fails: an unknown sound refused
-steps_of_unknown : positions segment_of_spread hat 2 0 ≡ ok []
+steps_of_unknown : positions segment_of_spread hat 2 0 ≡ Ok []
 unfolding calling
 steps_of_unknown = refl
 

@@ -1,12 +1,11 @@
 -- Kind 12, "a list or text handed in with over 16,777,216 elements, or a question over 128 sounds", comes first. So long a list does not
 -- compute; a case here is of whatever list has so many elements: 16,777,216 pass on to the next refusal, one more is 12.
-use Rattle.std.specs.Prelude.{ℕ, ◌≡◌, refl, List, [], ◌∷◌, length, replicate}
-use Rattle.segment.specs.Results.{ok}
+use Rattle.std.specs.Prelude.{Ok, ℕ, ◌≡◌, refl, List, [], ◌∷◌, length, replicate}
 use Rattle.calls.specs.Reads.{df, docs_with_term, term_postings, positions}
 use Rattle.rules.specs.declared.rule.Rule.TheVariants.{Phrase}
 use Rattle.calls.specs.Questions.{search_text, search_two}
 use Rattle.cases.specs.Through.{writing, calling, asking}
-use Rattle.cases.specs.Sealing.{refused}
+use Rattle.cases.specs.Digits.{refused}
 use Rattle.cases.specs.Segments.{a, segment_of_uneven}
 use Rattle.cases.specs.NotWritten.{put}
 
@@ -108,7 +107,7 @@ unfolding asking
 of_text xs = (λ n. rw n refl, λ n. rw n refl)
 
 -- 128 sounds pass: here 128 empty names, which no segment has. Fails: a limit of 127
-many_names : search_text segment_of_uneven Phrase [] (replicate 128 0) 0 ≡ ok []
+many_names : search_text segment_of_uneven Phrase [] (replicate 128 0) 0 ≡ Ok []
 unfolding asking
 many_names = refl
 

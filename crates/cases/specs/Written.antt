@@ -1,7 +1,6 @@
 -- The bytes written, and what they give back.
-use Rattle.std.specs.Prelude.{◌≡◌, refl, [], ◌∷◌, ◌++◌, length, take, drop, replicate}
-use Rattle.segment.specs.Results.{ok}
-use Rattle.segment.specs.declared.replies.Written.TheVariants as written
+use Rattle.cases.specs.Digits.{refusal_of, refused}
+use Rattle.std.specs.Prelude.{Err, Ok, ◌≡◌, refl, [], ◌∷◌, ◌++◌, length, take, drop, replicate}
 use Rattle.calls.specs.Given.{Lists, given, laid_flat}
 use Rattle.calls.specs.Writing.{write}
 use Rattle.segment.specs.Contents.{decode_segment}
@@ -9,7 +8,7 @@ use Rattle.write_segment.specs.Promise.{Wrote}
 use Rattle.claim_joint.specs.Own.{own}
 use Rattle.calls.specs.Sizes.{segment_size}
 use Rattle.cases.specs.Through.{writing, measuring, owning, reading_back, flattening}
-use Rattle.cases.specs.Sealing.{refused, document, posting}
+use Rattle.cases.specs.Sealing.{document, posting}
 use Rattle.cases.specs.Segments.{kick, snare, hat, a, b, two_documents, segment_of_two, uneven, segment_of_uneven, spread}
 use Rattle.cases.specs.Segments.{segment_of_spread, same_step, segment_of_same_step, high, segment_of_high}
 
@@ -81,7 +80,7 @@ own_none = refl
 -- ---- bytes
 
 -- the two bars. Fails: a step held back, a gap not taken
-two_written : write two_documents 165 ≡ ok segment_of_two
+two_written : write two_documents 165 ≡ Ok segment_of_two
 unfolding writing
 two_written = refl
 
@@ -98,22 +97,22 @@ two_kick : take 8 (drop 149 segment_of_two) ≡ 0x03 ∷ 0x03 ∷ 0x00 ∷ 0x04 
 two_kick = refl
 
 -- three documents and one term. Fails: the counts of the header swapped, a checksum of the whole section as the list's
-uneven_written : write uneven 124 ≡ ok segment_of_uneven
+uneven_written : write uneven 124 ≡ Ok segment_of_uneven
 unfolding writing
 uneven_written = refl
 
 -- two lists of different length and df. Fails: offsets that do not add up, df for the number of positions
-spread_written : write spread 162 ≡ ok segment_of_spread
+spread_written : write spread 162 ≡ Ok segment_of_spread
 unfolding writing
 spread_written = refl
 
 -- ids and positions from 0 on. Fails: a first gap counted from 1
-same_step_written : write same_step 154 ≡ ok segment_of_same_step
+same_step_written : write same_step 154 ≡ Ok segment_of_same_step
 unfolding writing
 same_step_written = refl
 
 -- numbers of five bytes. Fails: numbers cut to four bytes
-high_written : write high 170 ≡ ok segment_of_high
+high_written : write high 170 ≡ Ok segment_of_high
 unfolding writing
 high_written = refl
 
@@ -130,7 +129,7 @@ nothing_handed_in = record {
   positions = [];
 }
 
-nothing_written : write nothing_handed_in 72 ≡ ok (0x50 ∷ 0x53 ∷ 0x54 ∷ 0x50 ∷ 0x30 ∷ 0x30 ∷ 0x30 ∷ 0x31 ∷ 0x02 ∷ replicate 63 0x00)
+nothing_written : write nothing_handed_in 72 ≡ Ok (0x50 ∷ 0x53 ∷ 0x54 ∷ 0x50 ∷ 0x30 ∷ 0x30 ∷ 0x30 ∷ 0x31 ∷ 0x02 ∷ replicate 63 0x00)
 unfolding writing nothing_handed_in
 nothing_written = refl
 
@@ -152,12 +151,12 @@ high_measured = refl
 -- ---- the lent slice
 
 -- room for exactly the bytes; the reply is their number. One place more is unchanged. Fails: 13 while places suffice, a tail cleared
-two_left : Wrote two_documents (replicate 167 0xAA) (written.Length 165) (segment_of_two ++ 0xAA ∷ 0xAA ∷ [])
+two_left : Wrote two_documents (replicate 167 0xAA) (Ok 165) (segment_of_two ++ 0xAA ∷ 0xAA ∷ [])
 unfolding writing
 two_left = record { reply = refl; left = refl }
 
 -- 13: index is the length needed; the slice is unchanged. Fails: bytes stored as far as they go
-two_refused : Wrote two_documents (replicate 164 0xAA) (written.Refused (record { kind = 13; which = 1; index = 165 })) (replicate 164 0xAA)
+two_refused : Wrote two_documents (replicate 164 0xAA) (Err (refusal_of 13 1 165)) (replicate 164 0xAA)
 unfolding writing
 two_refused = record { reply = refl; left = refl }
 
@@ -169,21 +168,21 @@ nothing_refused = refl
 -- ---- given back: the same ids and lengths, the same names, and under each name the same ids, each with the same positions
 
 -- two lists. Fails: a first position or id taken as a gap to the one before
-two_back : decode_segment segment_of_two ≡ ok (given two_documents)
+two_back : decode_segment segment_of_two ≡ Ok (given two_documents)
 unfolding reading_back flattening
 two_back = refl
 
 -- documents without postings. Fails: documents by their postings
-uneven_back : decode_segment segment_of_uneven ≡ ok (given uneven)
+uneven_back : decode_segment segment_of_uneven ≡ Ok (given uneven)
 unfolding reading_back flattening
 uneven_back = refl
 
 -- lists of different length. Fails: a list that runs into the next
-spread_back : decode_segment segment_of_spread ≡ ok (given spread)
+spread_back : decode_segment segment_of_spread ≡ Ok (given spread)
 unfolding reading_back flattening
 spread_back = refl
 
 -- numbers of five bytes. Fails: a sum of 32 bits
-high_back : decode_segment segment_of_high ≡ ok (given high)
+high_back : decode_segment segment_of_high ≡ Ok (given high)
 unfolding reading_back flattening
 high_back = refl

@@ -10,7 +10,7 @@ use ask_checked::questions::{
 use claim_joint::ask::{Asked, Question};
 use handle::checking::check;
 use handle::handle::Handle;
-use segment::replies::{Counted, Written};
+use segment::refusal::Refusal;
 use write_segment::write::write_positional_segment;
 
 // A question put to a segment with a handle. With the segment's own it is answered as without.
@@ -22,7 +22,7 @@ fn ask_with(
     name_ends: &[u32],
     other: &[u8],
     found: &mut [u32],
-) -> Counted
+) -> Result<usize, Refusal>
     ensures { HandleOf bytes.now h
         → Put bytes.now question name.now name_ends.now other.now found.old result found.new }
 {
@@ -43,7 +43,7 @@ fn check_then_ask(
     name_ends: &[u32],
     other: &[u8],
     found: &mut [u32],
-) -> Counted
+) -> Result<usize, Refusal>
     ensures { Put bytes.now question name.now name_ends.now other.now found.old result found.new }
 {
     let h = check(bytes);
@@ -67,11 +67,11 @@ pub fn write_check_then_ask(
     name_ends: &[u32],
     other: &[u8],
     found: &mut [u32],
-) -> Asked
+) -> Result<Asked, Refusal>
     ensures { WrittenThenAsked (given_lists ids lengths text ends posting_counts posting_ids position_counts positions)
         out.old question name.now name_ends.now other.now found.old result out.new found.new }
 {
-    match write_positional_segment(
+    let written = write_positional_segment(
         ids,
         lengths,
         text,
@@ -81,11 +81,7 @@ pub fn write_check_then_ask(
         position_counts,
         positions,
         out,
-    ) {
-        Written::Length(n) => {
-            let answer = check_then_ask(&out[..n], question, name, name_ends, other, found);
-            Asked::Answer(n, answer)
-        }
-        Written::Refused(x) => Asked::NotWritten(x),
-    }
+    )?;
+    let answer = check_then_ask(&out[..written], question, name, name_ends, other, found);
+    Ok(Asked { written, answer })
 }

@@ -1,12 +1,12 @@
 -- What the importer leaves: the lists at the fronts of the buffers.
 -- Assumes nothing.
+use Rattle.std.specs.Prelude.{Ok}
 use mathlib.Core.Path.{◌≡◌, refl, sym, ap₂, subst, ◌∙◌}
 use mathlib.Core.List.{List}
 use Prim.Native.Nat.{ℕ, ◌≤◌}
 use native.Mathlib.Omega.{arith}
 use lib.ListN.{length, take, drop, length-append}
 use lib.Seq.{take_at}
-use Rattle.segment.specs.Results.{ok}
 use Rattle.segment.proofs.Binds.{bind_gives, ok_same}
 use Rattle.calls.specs.Given.{Lists}
 use Rattle.calls.specs.Replies.{fronted}
@@ -24,27 +24,27 @@ front_fits : (xs b : List ℕ) (n : ℕ) → length xs ≡ n → n ≤ length (f
 front_fits xs b n e = omega (arith, length-append xs (drop (length xs) b))
 
 -- the call reads what the file holds
-pub read_by : (steps quarter : ℕ) (file : List ℕ) (b l : AllLists) → import_into steps quarter file b ≡ ok l
-    → import_all steps quarter file ≡ ok l
+pub read_by : (steps quarter : ℕ) (file : List ℕ) (b l : AllLists) → import_into steps quarter file b ≡ Ok l
+    → import_all steps quarter file ≡ Ok l
 unfolding import_into
 read_by steps quarter file b l f =
     let (m, e, f₁) = bind_gives (import_all steps quarter file) _ f in
     let (_, _, f₂) = bind_gives (roomy_beside m b) _ f₁ in
     e ∙ f₂
 
-pub room_by : (steps quarter : ℕ) (file : List ℕ) (b l : AllLists) → import_into steps quarter file b ≡ ok l → roomy_beside l b ≡ ok tt
+pub room_by : (steps quarter : ℕ) (file : List ℕ) (b l : AllLists) → import_into steps quarter file b ≡ Ok l → roomy_beside l b ≡ Ok tt
 unfolding import_into
 room_by steps quarter file b l f =
     let (m, e, f₁) = bind_gives (import_all steps quarter file) _ f in
     let (u, room, f₂) = bind_gives (roomy_beside m b) _ f₁ in
-    subst (λ q. roomy_beside q b ≡ ok tt) (ok_same f₂) room
+    subst (λ q. roomy_beside q b ≡ Ok tt) (ok_same f₂) room
 
-pub read_into : (steps quarter : ℕ) (file : List ℕ) (b l : AllLists) → import_all steps quarter file ≡ ok l → roomy_beside l b ≡ ok tt
-    → import_into steps quarter file b ≡ ok l
+pub read_into : (steps quarter : ℕ) (file : List ℕ) (b l : AllLists) → import_all steps quarter file ≡ Ok l → roomy_beside l b ≡ Ok tt
+    → import_into steps quarter file b ≡ Ok l
 unfolding import_into
 read_into steps quarter file b l e room = rw (e, room)
 
-module _ (steps quarter : ℕ) (file : List ℕ) (b l : Lists) (one : 1 ≤ steps) (read : import_file steps quarter file ≡ ok l) where
+module _ (steps quarter : ℕ) (file : List ℕ) (b l : Lists) (one : 1 ≤ steps) (read : import_file steps quarter file ≡ Ok l) where
   pub fronts_are : fronts (totals_of l) (fronted_lists l b) ≡ l
   fronts_are =
       let shape = (import_accepted steps quarter file l one read).shape in
@@ -74,8 +74,8 @@ module _ (steps quarter : ℕ) (file : List ℕ) (b l : Lists) (one : 1 ≤ step
       }
 
 -- the velocities, as many as the positions
-pub loud_front : (steps quarter : ℕ) (file : List ℕ) (b l : AllLists) (one : 1 ≤ steps) (read : import_all steps quarter file ≡ ok l)
-    → let q = import_left (ok l) b in
+pub loud_front : (steps quarter : ℕ) (file : List ℕ) (b l : AllLists) (one : 1 ≤ steps) (read : import_all steps quarter file ≡ Ok l)
+    → let q = import_left (Ok l) b in
     beside (fronts (totals_of l.lists) q.lists) (take (length l.lists.positions) q.velocities) ≡ l
 loud_front steps quarter file b l one read =
     let (_, _, held) = loudness_held steps quarter file l one read in

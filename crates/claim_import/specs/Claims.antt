@@ -1,9 +1,8 @@
 -- What is claimed of the definitions; proved in proofs/Notes.antt and Told.antt.
-use Rattle.std.specs.Prelude.{ℕ, ◌+◌, ◌*◌, ◌≤◌, ◌<◌, ◌≡◌, List, ◌↔◌, length, take}
+use Rattle.std.specs.Prelude.{Ok, ℕ, ◌+◌, ◌*◌, ◌≤◌, ◌<◌, ◌≡◌, List, ◌↔◌, length, take}
 use Rattle.common.specs.Elements.{◌∈◌}
 use Rattle.rules.specs.declared.rule.Rule.TheVariants.{Phrase}
 use Rattle.rules.specs.Words.{HasPhrase}
-use Rattle.segment.specs.declared.replies.Imported.TheVariants as imported
 use Rattle.segment.specs.declared.replies.ListTotals.{ListTotals}
 use Rattle.calls.specs.Given.{Lists}
 use Rattle.midi_read.specs.declared.track.Hit.{Hit}
@@ -45,13 +44,13 @@ BarsAgree =
 abbrev pub FrontsHeld : Type 0
 FrontsHeld =
     (steps quarter : ℕ) (file : List ℕ) (b b' : AllLists) (t : ListTotals) → 1 ≤ steps
-    → BarsImported steps quarter file b (imported.Totals t) b'
+    → BarsImported steps quarter file b (Ok t) b'
     → (hs : List Hit) × WithinRules steps quarter file hs × HoldsFile steps quarter file hs (fronts t b'.lists)
 
 -- and beside their positions, at the front of the ninth, how loud they are
 abbrev pub FrontsLoud : Type 0
 FrontsLoud =
     (steps quarter : ℕ) (file : List ℕ) (b b' : AllLists) (t : ListTotals) → 1 ≤ steps
-    → BarsImported steps quarter file b (imported.Totals t) b'
+    → BarsImported steps quarter file b (Ok t) b'
     → (hs : List Hit) × WithinRules steps quarter file hs
     × HoldsLoudness steps quarter file hs (beside (fronts t b'.lists) (take t.positions b'.velocities))

@@ -10,13 +10,13 @@ ghost use Rattle.claim_import.specs.Promise.{ImportedThenAsked};
 use claim_joint::ask::{Asked, Question, write_then_ask};
 use midi_import::import::midi_bars;
 use segment::refusal::Refusal;
-use segment::replies::{Imported, ListTotals};
+use segment::replies::ListTotals;
 
-// The importer's refusal, or how much was imported and what writing and asking answered.
+// How much was imported, and what writing and asking answered.
 #[derive(Clone, Copy)]
-pub enum ImportAsked {
-    NotImported(Refusal),
-    Asked(ListTotals, Asked),
+pub struct ImportAsked {
+    pub totals: ListTotals,
+    pub asked: Result<Asked, Refusal>,
 }
 
 // Writes the lists at the fronts of the buffers, then asks a phrase. Each name has four bytes.
@@ -34,7 +34,7 @@ fn ask_fronts(
     name: &[u8],
     name_ends: &[u32],
     found: &mut [u32],
-) -> Asked
+) -> Result<Asked, Refusal>
     requires { HasFronts totals (lists ids.now lengths.now text.now ends.now posting_counts.now posting_ids.now
         position_counts.now positions.now) }
     ensures { WrittenThenAsked (fronts totals (given_lists ids lengths text ends posting_counts posting_ids position_counts
@@ -80,14 +80,14 @@ pub fn import_then_ask(
     name: &[u8],
     name_ends: &[u32],
     found: &mut [u32],
-) -> ImportAsked
+) -> Result<ImportAsked, Refusal>
     ensures { ImportedThenAsked 16 4 file.now
         (beside (held_lists ids lengths text ends posting_counts posting_ids position_counts positions) velocities.old)
         out.old name.now name_ends.now found.old result
         (beside (left_lists ids lengths text ends posting_counts posting_ids position_counts positions) velocities.new)
         out.new found.new }
 {
-    match midi_bars(
+    let totals = midi_bars(
         file,
         ids,
         lengths,
@@ -98,25 +98,21 @@ pub fn import_then_ask(
         position_counts,
         positions,
         velocities,
-    ) {
-        Imported::Totals(totals) => {
-            let asked = ask_fronts(
-                totals,
-                ids,
-                lengths,
-                text,
-                ends,
-                posting_counts,
-                posting_ids,
-                position_counts,
-                positions,
-                out,
-                name,
-                name_ends,
-                found,
-            );
-            ImportAsked::Asked(totals, asked)
-        }
-        Imported::Refused(x) => ImportAsked::NotImported(x),
-    }
+    )?;
+    let asked = ask_fronts(
+        totals,
+        ids,
+        lengths,
+        text,
+        ends,
+        posting_counts,
+        posting_ids,
+        position_counts,
+        positions,
+        out,
+        name,
+        name_ends,
+        found,
+    );
+    Ok(ImportAsked { totals, asked })
 }

@@ -1,5 +1,6 @@
 -- What the search answers of a written segment: the ids that the definitions name, or that there is no room for them.
 -- Assumes nothing.
+use Rattle.std.specs.Prelude.{Err, Ok}
 use mathlib.Core.Path.{◌≡◌}
 use mathlib.Core.List.{List, [], ◌∷◌}
 use mathlib.Core.Logic.{inl, inr}
@@ -10,7 +11,7 @@ use lib.ListN.{length}
 use borrow.Author.Tests.{le-leb, lt-leb}
 use Rattle.utf8.specs.Utf8.{IsUtf8}
 use Rattle.segment.specs.Refusals.{no_room}
-use Rattle.segment.specs.Results.{Result, ok, refuse, ◌>>=◌, check}
+use Rattle.segment.specs.Results.{Answer, ◌>>=◌, check}
 use Rattle.segment.specs.Texts.{names}
 use Rattle.calls.specs.Given.{Lists, given}
 use Rattle.calls.specs.Acceptance.{ListsFine}
@@ -30,13 +31,13 @@ use Rattle.claim_joint.proofs.LookupsBack.{Decodes, answers_back}
 use Rattle.claim_joint.proofs.Meeting.{ids_of}
 
 -- the ids, where they have room
-abbrev pub roomed : List ℕ → (places : ℕ) → Result (List ℕ)
-roomed ids places = check (leb (length ids) places) (no_room 1 (length ids)) >>= λ _. ok ids
+abbrev pub roomed : List ℕ → (places : ℕ) → Answer (List ℕ)
+roomed ids places = check (leb (length ids) places) (no_room 1 (length ids)) >>= λ _. Ok ids
 
-pub roomed_fits : (ids : List ℕ) (places : ℕ) → length ids ≤ places → roomed ids places ≡ ok ids
+pub roomed_fits : (ids : List ℕ) (places : ℕ) → length ids ≤ places → roomed ids places ≡ Ok ids
 roomed_fits ids places h = rw (le-leb (length ids) places h)
 
-pub roomed_full : (ids : List ℕ) (places : ℕ) → places < length ids → roomed ids places ≡ refuse (no_room 1 (length ids))
+pub roomed_full : (ids : List ℕ) (places : ℕ) → places < length ids → roomed ids places ≡ Err (no_room 1 (length ids))
 roomed_full ids places h = rw (lt-leb (length ids) places h)
 
 module _ (l : Lists) (typed : Typed l) (fine : ListsFine l) where

@@ -1,5 +1,6 @@
 -- Demand 3 over the definitions: what is written is given back, and every question put to it lists exactly those that meet it.
 -- Assumes nothing.
+use Rattle.std.specs.Prelude.{Ok}
 use mathlib.Core.Path.{◌≡◌, sym, ap, ◌∙◌}
 use mathlib.Core.List.{List, [], ◌∷◌}
 use Prim.Native.Nat.{ℕ, ◌≤◌}
@@ -7,7 +8,7 @@ use native.Mathlib.Omega.{arith}
 use lib.ListN.{length, drop}
 use lib.Seq.{take-append_seam, drop-append_seam}
 use Rattle.utf8.specs.Utf8.{IsUtf8}
-use Rattle.segment.specs.Results.{Result, ok}
+use Rattle.segment.specs.Results.{Answer}
 use Rattle.segment.specs.Texts.{names}
 use Rattle.calls.specs.Replies.{fronted, filled, count_of}
 use Rattle.calls.specs.Given.{Lists}
@@ -29,7 +30,7 @@ use Rattle.claim_joint.proofs.Counted.{counts_back}
 use Rattle.claim_joint.proofs.Answered.{roomed, roomed_fits, text_answers, two_answers}
 
 -- the bytes in front of what the slice had
-pub written_back : (l : Lists) (out bytes : List ℕ) → Typed l → write l (length out) ≡ ok bytes
+pub written_back : (l : Lists) (out bytes : List ℕ) → Typed l → write l (length out) ≡ Ok bytes
     → GivenBack l out (length bytes) (fronted bytes out)
 written_back l out bytes typed e =
     let b = reads_back l (length out) bytes typed e in
@@ -42,12 +43,12 @@ written_back l out bytes typed e =
       rest = drop-append_seam bytes (drop (length bytes) out);
     }
 
-module _ (l : Lists) (room : ℕ) (bytes : List ℕ) (typed : Typed l) (e : write l room ≡ ok bytes) where
+module _ (l : Lists) (room : ℕ) (bytes : List ℕ) (typed : Typed l) (e : write l room ≡ Ok bytes) where
   fine : ListsFine l
   fine = (accepted_gives l room e).lists
 
   -- any answer that is the ids or that they have no room
-  listed_by : (rule : Rule) (ns : List (List ℕ)) → Enough rule (length ns) → (found : List ℕ) (answer : Result (List ℕ))
+  listed_by : (rule : Rule) (ns : List (List ℕ)) → Enough rule (length ns) → (found : List ℕ) (answer : Answer (List ℕ))
       → answer ≡ roomed (ids_of l rule ns) (length found)
       → Listed l rule ns found (count_of answer) (filled (λ xs. xs) answer found)
   listed_by rule ns enough found answer is =
@@ -56,7 +57,7 @@ module _ (l : Lists) (room : ℕ) (bytes : List ℕ) (typed : Typed l) (e : writ
         there_are = (ids_of l rule ns, those);
         answer = λ ids meet h.
             let same = those_unique l rule ns (ids_of l rule ns) ids those meet in
-            let k : answer ≡ ok ids = is ∙ rw same (roomed_fits ids (length found) h) in
+            let k : answer ≡ Ok ids = is ∙ rw same (roomed_fits ids (length found) h) in
             (rw k, rw k);
       }
 

@@ -1,13 +1,11 @@
 -- Demand 3: one claim across writer and search, for all the writer's inputs and all the questions that it names. Nothing here names what
 -- the writer or the search computes: only what is handed in, document 01's format, and the rules in words.
-use Rattle.std.specs.Prelude.{ℕ, ◌≤◌, ◌≡◌, List, [], ◌∷◌, ◌++◌, map, ◌↔◌, length, take, drop}
+use Rattle.std.specs.Prelude.{Err, Ok, ℕ, ◌≤◌, ◌≡◌, List, [], ◌∷◌, ◌++◌, map, ◌↔◌, length, take, drop}
+use Rattle.segment.specs.Results.{Answer}
 use Rattle.utf8.specs.Utf8.{IsUtf8}
 use Rattle.segment.specs.declared.refusal.Refusal.{Refusal}
-use Rattle.segment.specs.Results.{ok}
 use Rattle.segment.specs.Texts.{names}
 use Rattle.segment.specs.Opening.{open_segment}
-use Rattle.segment.specs.declared.replies.Counted.{Counted}
-use Rattle.segment.specs.declared.replies.Counted.TheVariants as counted
 use Rattle.calls.specs.Given.{Lists, given, laid_flat}
 use Rattle.calls.specs.Acceptance.{ListsFine}
 use Rattle.segment.specs.Contents.{decode_segment}
@@ -19,7 +17,6 @@ use Rattle.calls.specs.Questions.{WellFormed}
 use Rattle.claim_joint.specs.declared.ask.Question.{Question}
 use Rattle.claim_joint.specs.declared.ask.Question.TheVariants as question
 use Rattle.claim_joint.specs.declared.ask.Asked.{Asked}
-use Rattle.claim_joint.specs.declared.ask.Asked.TheVariants as asked
 use Rattle.claim_joint.specs.Own.{own}
 use Rattle.calls.specs.Sizes.{segment_size}
 use Rattle.segment.specs.Counts.{position_counts_of}
@@ -35,7 +32,7 @@ pub record NoRefusal (l : Lists) (room : ℕ) : Type 0 where
 pub record GivenBack (l : Lists) (out : List ℕ) (n : ℕ) (out' : List ℕ) : Type 0 where
   pub size : n ≡ segment_size l
   pub fits : n ≤ length out
-  pub back : decode_segment (take n out') ≡ ok (given l)
+  pub back : decode_segment (take n out') ≡ Ok (given l)
   pub flat : laid_flat (given l) ≡ l
   pub counted : position_counts_of (open_segment (take n out')) ≡ length l.positions
   pub rest : drop n out' ≡ drop n out
@@ -47,29 +44,36 @@ pub record ThoseThatMeet (l : Lists) (rule : Rule) (ns : List (List ℕ)) (ids :
   pub rising : Rising ids
 
 -- the search does not refuse: it answers their number, and they fill that many first places of the buffer
-pub record Listed (l : Lists) (rule : Rule) (ns : List (List ℕ)) (found : List ℕ) (r : Counted) (found' : List ℕ) : Type 0 where
+pub record Listed (l : Lists) (rule : Rule) (ns : List (List ℕ)) (found : List ℕ) (r : Answer ℕ) (found' : List ℕ) : Type 0 where
   pub there_are : (ids : List ℕ) × ThoseThatMeet l rule ns ids
   pub answer : (ids : List ℕ) → ThoseThatMeet l rule ns ids → length ids ≤ length found
-      → (r ≡ counted.Count (length ids)) × (found' ≡ ids ++ drop (length ids) found)
+      → (r ≡ Ok (length ids)) × (found' ≡ ids ++ drop (length ids) found)
 
 -- ---- the claim of a call that writes and then asks exactly the bytes written
 
+-- the writer's refusal; or so many bytes written, and the search's answer
+abbrev pub not_written : Refusal → Answer Asked
+not_written x = Err x
+
+abbrev pub answered : ℕ → Answer ℕ → Answer Asked
+answered n c = Ok (record { written = n; answer = c })
+
 -- written, n bytes long, and asked
-abbrev pub AnsweredBy : Asked → Type 0
-AnsweredBy r = (n : ℕ) × (c : Counted) × (r ≡ asked.Answer n c)
+abbrev pub AnsweredBy : Answer Asked → Type 0
+AnsweredBy r = (n : ℕ) × (c : Answer ℕ) × (r ≡ answered n c)
 
 -- `Proper`: the question is one that demand 3 names
 pub record Demand3 (l : Lists) (out : List ℕ) (rule : Rule) (ns : List (List ℕ)) (Proper : Type 0) (found : List ℕ)
-    (r : Asked) (out' found' : List ℕ) : Type 0 where
+    (r : Answer Asked) (out' found' : List ℕ) : Type 0 where
   -- the writer accepts exactly when document 01 names no refusal, and a refusal changes no lent place
   pub accepts : AnsweredBy r ↔ NoRefusal l (length out)
-  pub refuses : (x : Refusal) → r ≡ asked.NotWritten x → (out' ≡ out) × (found' ≡ found)
+  pub refuses : (x : Refusal) → r ≡ not_written x → (out' ≡ out) × (found' ≡ found)
   -- a search that refuses, as it may a question that demand 3 does not name, leaves its buffer
-  pub search_refuses : (n : ℕ) (x : Refusal) → r ≡ asked.Answer n (counted.Refused x) → found' ≡ found
+  pub search_refuses : (n : ℕ) (x : Refusal) → r ≡ answered n (Err x) → found' ≡ found
   -- the bytes give back what was handed in
-  pub gives_back : (n : ℕ) (c : Counted) → r ≡ asked.Answer n c → GivenBack l out n out'
+  pub gives_back : (n : ℕ) (c : Answer ℕ) → r ≡ answered n c → GivenBack l out n out'
   -- the search does not refuse, and lists exactly the documents whose own positions meet the question
-  pub lists : (n : ℕ) (c : Counted) → r ≡ asked.Answer n c → Proper → Listed l rule ns found c found'
+  pub lists : (n : ℕ) (c : Answer ℕ) → r ≡ answered n c → Proper → Listed l rule ns found c found'
 
 -- names in one text: well-formed, and enough of them
 pub record ProperText (rule : Rule) (text ends : List ℕ) : Type 0 where

@@ -4,7 +4,6 @@ ghost use Rattle.claim_joint.specs.Promise.{Put, WrittenThenAsked};
 
 use ask_search::questions::{near_match, near_match_terms_strs, phrase_match_strs};
 use segment::refusal::Refusal;
-use segment::replies::{Counted, Written};
 use write_segment::write::write_positional_segment;
 
 // A phrase; names near one another within a window, in the order named if the flag is set, else in any; two names near one another.
@@ -15,11 +14,11 @@ pub enum Question {
     Two(u32),
 }
 
-// The writer's refusal, or how many bytes were written and what the search answered.
+// How many bytes were written, and what the search answered.
 #[derive(Clone, Copy)]
-pub enum Asked {
-    NotWritten(Refusal),
-    Answer(usize, Counted),
+pub struct Asked {
+    pub written: usize,
+    pub answer: Result<usize, Refusal>,
 }
 
 // A question put to a segment.
@@ -30,7 +29,7 @@ fn ask(
     name_ends: &[u32],
     other: &[u8],
     found: &mut [u32],
-) -> Counted
+) -> Result<usize, Refusal>
     ensures { Put bytes.now question name.now name_ends.now other.now found.old result found.new }
 {
     match question {
@@ -59,11 +58,11 @@ pub fn write_then_ask(
     name_ends: &[u32],
     other: &[u8],
     found: &mut [u32],
-) -> Asked
+) -> Result<Asked, Refusal>
     ensures { WrittenThenAsked (given_lists ids lengths text ends posting_counts posting_ids position_counts positions)
         out.old question name.now name_ends.now other.now found.old result out.new found.new }
 {
-    match write_positional_segment(
+    let written = write_positional_segment(
         ids,
         lengths,
         text,
@@ -73,11 +72,7 @@ pub fn write_then_ask(
         position_counts,
         positions,
         out,
-    ) {
-        Written::Length(n) => {
-            let answer = ask(&out[..n], question, name, name_ends, other, found);
-            Asked::Answer(n, answer)
-        }
-        Written::Refused(x) => Asked::NotWritten(x),
-    }
+    )?;
+    let answer = ask(&out[..written], question, name, name_ends, other, found);
+    Ok(Asked { written, answer })
 }

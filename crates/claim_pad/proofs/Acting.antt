@@ -1,13 +1,13 @@
 -- By induction over the calls: while the words hold the map, each call's promise is the map's answer, and the words hold the next map.
 -- Assumes nothing.
+use Rattle.std.specs.Prelude.{Err, Ok}
 use mathlib.Core.Path.{◌≡◌, refl, sym, ap, ◌∙◌, subst}
 use mathlib.Core.Bool.{true}
 use mathlib.Core.List.{List, [], ◌∷◌}
 use Prim.Native.Nat.{ℕ}
 use lib.ListN.{length}
 use Rattle.segment.specs.Refusals.{broken_pad}
-use Rattle.segment.specs.Results.{Result, ok, refuse}
-use Rattle.segment.specs.declared.replies.Counted.{Counted}
+use Rattle.segment.specs.Results.{Answer}
 use Rattle.segment.proofs.Binds.{ok_same}
 use Rattle.segment.proofs.Accepted.{check_gives}
 use Rattle.pad_map.specs.Bars.{Bar, without, hits_in_all}
@@ -24,7 +24,7 @@ use Rattle.claim_pad.specs.Sequences.{map_next, map_after, MapAnswered, AllAnswe
 
 -- ---- words that hold a map: the calls are the map's
 
-module _ (pad : List ℕ) (bars : List Bar) (h : held_bars pad ≡ ok bars) where
+module _ (pad : List ℕ) (bars : List Bar) (h : held_bars pad ≡ Ok bars) where
   pub holds_these : (whole pad ≡ true) × (held pad ≡ bars)
   unfolding held_bars
   holds_these = let c = check_gives (whole pad) broken_pad _ h in (c.0, ok_same c.1)
@@ -51,20 +51,20 @@ module _ (pad : List ℕ) (bars : List Bar) (h : held_bars pad ≡ ok bars) wher
 
   -- ---- the map afterwards
 
-  saved_holds : (id len : ℕ) (ss ts vs : List ℕ) {r : Counted} {pad' : List ℕ} → BarSaved pad id len ss ts vs r pad'
-      → (told : Result (List Bar)) → save bars id len ss ts vs ≡ told → held_bars pad' ≡ ok (saved_map told bars)
-  saved_holds id len ss ts vs p (ok after) e = p.map after (save_by_map id len ss ts vs ∙ e)
-  saved_holds id len ss ts vs p (refuse x) e =
+  saved_holds : (id len : ℕ) (ss ts vs : List ℕ) {r : Answer ℕ} {pad' : List ℕ} → BarSaved pad id len ss ts vs r pad'
+      → (told : Answer (List Bar)) → save bars id len ss ts vs ≡ told → held_bars pad' ≡ Ok (saved_map told bars)
+  saved_holds id len ss ts vs p (Ok after) e = p.map after (save_by_map id len ss ts vs ∙ e)
+  saved_holds id len ss ts vs p (Err x) e =
       ap held_bars (p.words ∙ ap (λ q. saved_words q pad) (save_by_map id len ss ts vs ∙ e)) ∙ h
 
-  erased_holds : (id : ℕ) {r : Counted} {pad' : List ℕ} → BarErased pad id r pad' → (told : Result Bar)
-      → erase bars id ≡ told → held_bars pad' ≡ ok (erased_map id told bars)
-  erased_holds id p (ok b) e = p.map b (erase_by_map id ∙ e) ∙ ap (λ q. ok (without id q)) holds_these.1
-  erased_holds id p (refuse x) e = ap held_bars (p.words ∙ ap (λ q. erased_words id q pad) (erase_by_map id ∙ e)) ∙ h
+  erased_holds : (id : ℕ) {r : Answer ℕ} {pad' : List ℕ} → BarErased pad id r pad' → (told : Answer Bar)
+      → erase bars id ≡ told → held_bars pad' ≡ Ok (erased_map id told bars)
+  erased_holds id p (Ok b) e = p.map b (erase_by_map id ∙ e) ∙ ap (λ q. Ok (without id q)) holds_these.1
+  erased_holds id p (Err x) e = ap held_bars (p.words ∙ ap (λ q. erased_words id q pad) (erase_by_map id ∙ e)) ∙ h
 
   -- ---- one call
 
-  pub next_holds : (e : Event) (pad' : List ℕ) → Promised e pad pad' → held_bars pad' ≡ ok (map_next e bars)
+  pub next_holds : (e : Event) (pad' : List ℕ) → Promised e pad pad' → held_bars pad' ≡ Ok (map_next e bars)
   next_holds (Saved id len ss ts vs r) pad' p = saved_holds id len ss ts vs p (save bars id len ss ts vs) refl
   next_holds (Erased id r) pad' p = erased_holds id p (erase bars id) refl
   next_holds (Read id ss ts vs r ss' ts' vs') pad' (p, same) = ap held_bars same ∙ h
@@ -84,15 +84,15 @@ module _ (pad : List ℕ) (bars : List Bar) (h : held_bars pad ≡ ok bars) wher
 
 -- ---- any number of calls
 
-run_answers : (es : List Event) (pad : List ℕ) (bars : List Bar) (pad' : List ℕ) → held_bars pad ≡ ok bars → Run es pad pad'
-    → AllAnswered es bars × (held_bars pad' ≡ ok (map_after es bars))
+run_answers : (es : List Event) (pad : List ℕ) (bars : List Bar) (pad' : List ℕ) → held_bars pad ≡ Ok bars → Run es pad pad'
+    → AllAnswered es bars × (held_bars pad' ≡ Ok (map_after es bars))
 run_answers [] pad bars pad' h same = (tt, ap held_bars same ∙ h)
 run_answers (e ∷ es) pad bars pad' h (next, p, later) =
     let rest = run_answers es next (map_next e bars) pad' (next_holds pad bars h e next p) later in
     ((answered pad bars h e next p, rest.0), rest.1)
 
 -- the words of a whole pad hold the map that they hold
-pub holds_own : (pad : List ℕ) → whole pad ≡ true → held_bars pad ≡ ok (held pad)
+pub holds_own : (pad : List ℕ) → whole pad ≡ true → held_bars pad ≡ Ok (held pad)
 unfolding held_bars
 holds_own pad w = rw w
 

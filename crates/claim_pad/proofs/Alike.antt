@@ -1,9 +1,9 @@
 -- Writing out goes by the map, and by its bars' sounds and steps alone.
 -- Assumes nothing.
+use Rattle.segment.specs.Results.{Answer}
 use mathlib.Core.Path.{◌≡◌, sym, ◌∙◌}
 use mathlib.Core.List.{List}
 use Prim.Native.Nat.{ℕ}
-use Rattle.segment.specs.declared.replies.Written.{Written}
 use Rattle.pad_map.specs.Claims.{BarsAlike}
 use Rattle.pad_map.proofs.Alike.{velocity_unwritten}
 use Rattle.pad_words.specs.Words.{held}
@@ -21,7 +21,7 @@ same_words pad other w v a text ends room =
     ∙ velocity_unwritten (held pad) (held other) a text ends room
     ∙ sym (write_by_map other (held other) (holds_own other ((whole_exactly other).1 v)) text ends room)
 
-carried : (pad other text ends out : List ℕ) (r : Written) (out' : List ℕ)
+carried : (pad other text ends out : List ℕ) (r : Answer ℕ) (out' : List ℕ)
     → ((room : ℕ) → pad_write pad text ends room ≡ pad_write other text ends room)
     → PadWritten pad text ends out r out' → PadWritten other text ends out r out'
 carried pad other text ends out r out' same p = record { reply = rw (same _) at p.reply; left = rw (same _) at p.left }

@@ -1,8 +1,8 @@
 -- The list of bars is a map, so what was saved is what is read back.
 -- Assumes nothing.
+use Rattle.std.specs.Prelude.{Err, None, Ok, Some}
 use mathlib.Core.Path.{◌≡◌, refl, sym, ap, ◌∙◌}
 use mathlib.Core.List.{List, map, map-map}
-use mathlib.Core.Option.{none, some}
 use Prim.Native.Nat.{ℕ, ◌≤◌}
 use native.Mathlib.Omega.{arith}
 use lib.ListN.{length}
@@ -10,8 +10,7 @@ use borrow.Author.Tests.{le-leb, eq-eqb, ne_eqb}
 use Rattle.common.specs.Lists.{paired}
 use Rattle.common.proofs.Pairs.{lefts, rights, paired_count}
 use Rattle.segment.specs.Refusals.{unknown_bar}
-use Rattle.segment.specs.Results.{Result, ok, refuse}
-use Rattle.segment.specs.declared.replies.Counted.TheVariants as counted
+use Rattle.segment.specs.Results.{Answer}
 use Rattle.segment.proofs.Binds.{bind_gives}
 use Rattle.pad_map.specs.Bars.{Bar, key, key_of, with_velocity, bar, hits_in, lookup, without}
 use Rattle.pad_map.specs.Acts.{save, read}
@@ -30,19 +29,19 @@ read_same : (bars after : List Bar) (id sr tr vr : ℕ) → lookup after id ≡ 
 unfolding read
 read_same bars after id sr tr vr e = rw e
 
-read_found : (bars : List Bar) (id sr tr vr : ℕ) (b : Bar) → lookup bars id ≡ some b → length b.hits ≤ sr → length b.hits ≤ tr
+read_found : (bars : List Bar) (id sr tr vr : ℕ) (b : Bar) → lookup bars id ≡ Some b → length b.hits ≤ sr → length b.hits ≤ tr
     → length b.hits ≤ vr
-    → read bars id sr tr vr ≡ ok b
+    → read bars id sr tr vr ≡ Ok b
 unfolding read
 read_found bars id sr tr vr b e h k l =
     rw (e, le-leb (length b.hits) sr h, le-leb (length b.hits) tr k, le-leb (length b.hits) vr l)
 
-read_none : (bars : List Bar) (id sr tr vr : ℕ) → lookup bars id ≡ none → read bars id sr tr vr ≡ refuse unknown_bar
+read_none : (bars : List Bar) (id sr tr vr : ℕ) → lookup bars id ≡ None → read bars id sr tr vr ≡ Err unknown_bar
 unfolding read
 read_none bars id sr tr vr e = rw e
 
 -- two pads that hold maps which differ under one id at most
-others_same : (id : ℕ) (pad pad' : List ℕ) (bars after : List Bar) → held_bars pad ≡ ok bars → held_bars pad' ≡ ok after
+others_same : (id : ℕ) (pad pad' : List ℕ) (bars after : List Bar) → held_bars pad ≡ Ok bars → held_bars pad' ≡ Ok after
     → ((other : ℕ) → (other ≡ id → ⊥) → lookup after other ≡ lookup bars other) → OthersAsBefore id pad pad'
 others_same id pad pad' bars after h h' same other apart ss ts vs r ss' ts' vs' p =
     let e : pad_read pad' other (length ss) (length ts) (length vs) ≡ pad_read pad other (length ss) (length ts) (length vs) =
@@ -59,20 +58,20 @@ others_same id pad pad' bars after h h' same other apart ss ts vs r ss' ts' vs' 
 -- ---- saved
 
 -- what an answered save says
-pub save_accepted : (n : ℕ) (r : Result (List Bar)) {m : ℕ} → counted.Count m ≡ save_answer n r → (after : List Bar) × (r ≡ ok after)
-save_accepted n (ok after) e = (after, refl)
-save_accepted n (refuse x) e = let z : ◌≡◌ {A = ℕ} 0 1 = cc in absurd (omega arith)
+pub save_accepted : (n : ℕ) (r : Answer (List Bar)) {m : ℕ} → Ok m ≡ save_answer n r → (after : List Bar) × (r ≡ Ok after)
+save_accepted n (Ok after) e = (after, refl)
+save_accepted n (Err x) e = let z : ◌≡◌ {A = ℕ} 0 1 = cc in absurd (omega arith)
 
-pub erase_accepted : (r : Result Bar) {m : ℕ} → counted.Count m ≡ erase_answer r → (b : Bar) × (r ≡ ok b)
-erase_accepted (ok b) e = (b, refl)
-erase_accepted (refuse x) e = let z : ◌≡◌ {A = ℕ} 0 1 = cc in absurd (omega arith)
+pub erase_accepted : (r : Answer Bar) {m : ℕ} → Ok m ≡ erase_answer r → (b : Bar) × (r ≡ Ok b)
+erase_accepted (Ok b) e = (b, refl)
+erase_accepted (Err x) e = let z : ◌≡◌ {A = ℕ} 0 1 = cc in absurd (omega arith)
 
-pub pad_save_gives : (pad : List ℕ) (id len : ℕ) (ss ts vs : List ℕ) (after : List Bar) → pad_save pad id len ss ts vs ≡ ok after
-    → (bars : List Bar) × (held_bars pad ≡ ok bars) × (save bars id len ss ts vs ≡ ok after)
+pub pad_save_gives : (pad : List ℕ) (id len : ℕ) (ss ts vs : List ℕ) (after : List Bar) → pad_save pad id len ss ts vs ≡ Ok after
+    → (bars : List Bar) × (held_bars pad ≡ Ok bars) × (save bars id len ss ts vs ≡ Ok after)
 unfolding pad_save
 pad_save_gives pad id len ss ts vs after e = bind_gives (held_bars pad) _ e
 
-pub pad_erase_gives : (pad : List ℕ) (id : ℕ) (b : Bar) → pad_erase pad id ≡ ok b → (bars : List Bar) × (held_bars pad ≡ ok bars)
+pub pad_erase_gives : (pad : List ℕ) (id : ℕ) (b : Bar) → pad_erase pad id ≡ Ok b → (bars : List Bar) × (held_bars pad ≡ Ok bars)
 unfolding pad_erase
 pad_erase_gives pad id b e = let (bars, h, k) = bind_gives (held_bars pad) _ e in (bars, h)
 
@@ -92,8 +91,8 @@ saved_reads_back pad id len ss ts vs n pad' p =
     let keyed : map key_of (hits_in ss ts vs) ≡ keys = lefts with_velocity key_of (λ x y. refl) keys vs beside in
     record {
       same = λ is' it iv r is'' it'' iv'' room more most q.
-          let there : lookup after id ≡ some b = ap (λ m. lookup m id) is ∙ added bars b id a.free ∙ rw (eq-eqb id id refl) in
-          let told : pad_read pad' id (length is') (length it) (length iv) ≡ ok b =
+          let there : lookup after id ≡ Some b = ap (λ m. lookup m id) is ∙ added bars b id a.free ∙ rw (eq-eqb id id refl) in
+          let told : pad_read pad' id (length is') (length it) (length iv) ≡ Ok b =
           read_by_map pad' after h' id (length is') (length it) (length iv)
           ∙ read_found after id (length is') (length it) (length iv) b there (omega arith)
           (omega (arith, side.as_many_steps)) (omega (arith, side.as_many_velocities)) in
@@ -122,8 +121,8 @@ erased_is_gone pad id n pad' p =
     let h' = p.map b e in
     record {
       unknown = λ ss ts vs r ss' ts' vs' q.
-          let none_there : lookup (without id (held pad)) id ≡ none = taken_out (held pad) id id ∙ rw (eq-eqb id id refl) in
-          let told : pad_read pad' id (length ss) (length ts) (length vs) ≡ refuse unknown_bar =
+          let none_there : lookup (without id (held pad)) id ≡ None = taken_out (held pad) id id ∙ rw (eq-eqb id id refl) in
+          let told : pad_read pad' id (length ss) (length ts) (length vs) ≡ Err unknown_bar =
           read_by_map pad' (without id (held pad)) h' id (length ss) (length ts) (length vs)
           ∙ read_none (without id (held pad)) id (length ss) (length ts) (length vs) none_there in
           (rw told at q.reply, rw told at q.sounds_left, rw told at q.steps_left, rw told at q.velocities_left);

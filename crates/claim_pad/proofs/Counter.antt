@@ -1,14 +1,13 @@
 -- Words that are a pad store the sum, and after any calls the words are a pad, so that the number is the map's.
 -- Assumes nothing.
+use Rattle.std.specs.Prelude.{Err, None, Ok, Option, Some}
 use mathlib.Core.Path.{◌≡◌, refl, sym, ap, ◌∙◌}
 use mathlib.Core.List.{List}
-use mathlib.Core.Option.{Option, none, some}
 use Prim.Native.Nat.{ℕ, ◌+◌}
 use native.Mathlib.Omega.{arith}
 use lib.ListN.{length}
-use Rattle.segment.specs.Results.{Result, ok, refuse}
+use Rattle.segment.specs.Results.{Answer}
 use Rattle.segment.specs.declared.refusal.Refusal.{Refusal}
-use Rattle.segment.specs.declared.replies.Counted.TheVariants as counted
 use Rattle.segment.proofs.Binds.{refuse_ok}
 use Rattle.calls.specs.Replies.{length_of_written, filled}
 use Rattle.pad_map.specs.Bars.{Bar, bar, hits_in, lookup, hits_in_all}
@@ -49,7 +48,7 @@ saving_adds pad id len ss ts vs n pad' p =
     let (bars, h, k) = pad_save_gives pad id len ss ts vs after e in
     let a = save_gives bars id len ss ts vs after k in
     let many : length (hits_in ss ts vs) ≡ length ss = hits_count ss ts vs a.lists.side_by_side in
-    let told : counted.Count n ≡ counted.Count (length ss) = rw e at p.reply in
+    let told : ◌≡◌ {A = Answer ℕ} (Ok n) (Ok (length ss)) = rw e at p.reply in
     let same : n ≡ length ss = cc in
     let before = shown pad bars h in
     let now : pad_hits pad' ≡ length (hits_in ss ts vs) + hits_in_all bars =
@@ -57,9 +56,9 @@ saving_adds pad id len ss ts vs n pad' p =
     omega (arith, many, same, before, now)
 
 -- a bar that was found is the one under its id
-found_under : (o : Option Bar) (b : Bar) → found o ≡ ok b → o ≡ some b
-found_under none b e = refuse_ok e
-found_under (some c) b e = cc
+found_under : (o : Option Bar) (b : Bar) → found o ≡ Ok b → o ≡ Some b
+found_under None b e = refuse_ok e
+found_under (Some c) b e = cc
 
 pub erasing_takes_off : ErasingTakesOff
 erasing_takes_off pad id n pad' p =
@@ -67,9 +66,9 @@ erasing_takes_off pad id n pad' p =
     let (bars, h) = pad_erase_gives pad id b e in
     let (w, is) = holds_these pad bars h in
     let there = found_under (lookup bars id) b (sym (erase_by_map pad bars h id) ∙ e) in
-    let there' : lookup (held pad) id ≡ some b = ap (λ m. lookup m id) is ∙ there in
+    let there' : lookup (held pad) id ≡ Some b = ap (λ m. lookup m id) is ∙ there in
     let (fewer, sum) = room_given_back (held pad) id b ((whole_exactly pad).0 w).ids_rise there' in
-    let told : counted.Count n ≡ counted.Count (length b.hits) = rw e at p.reply in
+    let told : ◌≡◌ {A = Answer ℕ} (Ok n) (Ok (length b.hits)) = rw e at p.reply in
     let same : n ≡ length b.hits = cc in
     let before = total_is pad w in
     let now = shown pad' _ (p.map b e) in
@@ -77,13 +76,13 @@ erasing_takes_off pad id n pad' p =
 
 -- ---- refusals
 
-save_refused : (n : ℕ) (r : Result (List Bar)) (x : Refusal) (pad : List ℕ) → counted.Refused x ≡ save_answer n r → saved_words r pad ≡ pad
-save_refused n (ok after) x pad e = let z : ◌≡◌ {A = ℕ} 0 1 = cc in absurd (omega arith)
-save_refused n (refuse y) x pad e = refl
+save_refused : (n : ℕ) (r : Answer (List Bar)) (x : Refusal) (pad : List ℕ) → Err x ≡ save_answer n r → saved_words r pad ≡ pad
+save_refused n (Ok after) x pad e = let z : ◌≡◌ {A = ℕ} 0 1 = cc in absurd (omega arith)
+save_refused n (Err y) x pad e = refl
 
-erase_refused : (id : ℕ) (r : Result Bar) (x : Refusal) (pad : List ℕ) → counted.Refused x ≡ erase_answer r → erased_words id r pad ≡ pad
-erase_refused id (ok b) x pad e = let z : ◌≡◌ {A = ℕ} 0 1 = cc in absurd (omega arith)
-erase_refused id (refuse y) x pad e = refl
+erase_refused : (id : ℕ) (r : Answer Bar) (x : Refusal) (pad : List ℕ) → Err x ≡ erase_answer r → erased_words id r pad ≡ pad
+erase_refused id (Ok b) x pad e = let z : ◌≡◌ {A = ℕ} 0 1 = cc in absurd (omega arith)
+erase_refused id (Err y) x pad e = refl
 
 pub refusals_leave : RefusalsLeave
 refusals_leave pad pad' x = record {

@@ -1,10 +1,10 @@
 -- The lists of a map pass the writer's checks exactly where the names of sounds with hits do.
 -- Assumes nothing.
+use Rattle.std.specs.Prelude.{Err, None, Ok, Option, Some}
 use mathlib.Core.Path.{◌≡◌, refl, ◌∙◌, subst}
 use mathlib.Core.Bool.{Bool, true, false, cond}
 use mathlib.Core.List.{List, [], ◌∷◌, map}
 use mathlib.Core.Logic.{inl, inr}
-use mathlib.Core.Option.{Option, none, some}
 use Prim.Native.Nat.{ℕ, zero, suc, ◌+◌, ◌<◌}
 use native.Mathlib.Nat.{not-suc-le-zero}
 use native.Mathlib.Omega.{arith}
@@ -16,7 +16,7 @@ use Rattle.common.proofs.Elements.{map_from}
 use Rattle.common.proofs.Membership.{map_gives, some_in, in_some}
 use Rattle.segment.specs.Names.{Before}
 use Rattle.segment.specs.Records.{Document, Posting, Term}
-use Rattle.segment.specs.Results.{Result, ok, refuse, ◌>>=◌}
+use Rattle.segment.specs.Results.{Answer, ◌>>=◌}
 use Rattle.segment.proofs.Strings.{precedes_is}
 use Rattle.calls.specs.Given.{term}
 use Rattle.calls.specs.Acceptance.{NamesRising}
@@ -117,12 +117,12 @@ module _ (bars : List Bar) where
 
 -- ---- the checks of terms whose postings pass are those of their names
 
-bind_same : {A B : Type 0} (r : Result A) (f g : A → Result B) → ((a : A) → f a ≡ g a) → (r >>= f) ≡ (r >>= g)
-bind_same (ok a) f g e = e a
-bind_same (refuse x) f g e = refl
+bind_same : {A B : Type 0} (r : Answer A) (f g : A → Answer B) → ((a : A) → f a ≡ g a) → (r >>= f) ≡ (r >>= g)
+bind_same (Ok a) f g e = e a
+bind_same (Err x) f g e = refl
 
 pub names_decide_terms : (documents : List Document) (previous : Option (List ℕ)) (ts : List Term)
-    → ((t : Term) → t ∈ ts → (0 < length t.postings) × (check_postings documents none t.postings ≡ ok tt))
+    → ((t : Term) → t ∈ ts → (0 < length t.postings) × (check_postings documents None t.postings ≡ Ok tt))
     → check_terms documents previous ts ≡ check_used previous (map (λ t. t.name) ts)
 unfolding check_terms check_used
 names_decide_terms documents previous [] each = refl
@@ -130,4 +130,4 @@ names_decide_terms documents previous (t ∷ ts) each =
     let (has, passes) = each t (inl refl) in
     bind_same (check_name previous t.name) _ _
     (λ _. rw (lt-ltb 0 (length t.postings) has, passes)
-    (names_decide_terms documents (some t.name) ts (λ u m. each u (inr m))))
+    (names_decide_terms documents (Some t.name) ts (λ u m. each u (inr m))))

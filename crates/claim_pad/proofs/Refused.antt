@@ -1,11 +1,11 @@
 -- The map's refusals have other kinds than 20, saving's later ones other kinds than 18; which save is 22; and with room writing out has
 -- other kinds than 13.
 -- Assumes nothing.
+use Rattle.std.specs.Prelude.{Err, None, Ok, Option, Some}
 use mathlib.Core.Path.{◌≡◌, refl, sym, ap, ◌∙◌}
 use mathlib.Core.Bool.{Bool, true, false, not, ◌&&◌}
 use mathlib.Core.List.{List, [], ◌∷◌}
 use mathlib.Core.Logic.{⊎_elim}
-use mathlib.Core.Option.{Option, none, some}
 use Prim.Native.Nat.{ℕ, ◌+◌, ◌≤◌}
 use native.Mathlib.Omega.{arith}
 use lib.Dec.{ltb, leb, eqb}
@@ -14,10 +14,10 @@ use borrow.Author.Tests.{leb-true, le-leb, eqb-true}
 use Rattle.common.proofs.Loops.{true_false, and_left, and_right}
 use Rattle.utf8.specs.Utf8.{utf8}
 use Rattle.segment.specs.Directory.{follows}
-use Rattle.segment.specs.Refusals.{invalid_layout, invalid_utf8, list_shape, too_large, no_room, unknown_bar, already_held, pad_full}
-use Rattle.segment.specs.Refusals.{velocity_range}
+use Rattle.segment.specs.Refusals.{numbers, invalid_layout, invalid_utf8, list_shape, too_large, no_room, unknown_bar, already_held}
+use Rattle.segment.specs.Refusals.{pad_full, velocity_range}
 use Rattle.segment.specs.Refusals.{broken_pad, empty_term, terms_not_increasing, positions_not_increasing, written_position_exceeds_length}
-use Rattle.segment.specs.Results.{Result, ok, refuse, ◌>>=◌, check}
+use Rattle.segment.specs.Results.{Answer, ◌>>=◌, check}
 use Rattle.segment.specs.Texts.{ends_fit, names}
 use Rattle.segment.specs.Written.{segment_bytes}
 use Rattle.segment.specs.declared.refusal.Refusal.{Refusal}
@@ -47,25 +47,26 @@ use Rattle.claim_pad.proofs.Sized.{pad_takes}
 -- ---- results that are never refused with a kind
 
 module _ (kind : ℕ) where
-  record Never {A : Type 0} (r : Result A) : Type 0 where
-    other : (x : Refusal) → r ≡ refuse x → x.kind ≡ kind → ⊥
+  record Never {A : Type 0} (r : Answer A) : Type 0 where
+    other : (x : Refusal) → r ≡ Err x → (numbers x).kind ≡ kind → ⊥
 
-  never_ok : {A : Type 0} (a : A) → Never (ok a)
+  never_ok : {A : Type 0} (a : A) → Never (Ok a)
   never_ok a = record { other = λ x e is. let z : ◌≡◌ {A = ℕ} 0 1 = cc in absurd (omega arith) }
 
-  never_refuse : {A : Type 0} (x : Refusal) → (x.kind ≡ kind → ⊥) → Never {A = A} (refuse x)
-  never_refuse x h = record { other = λ y e is. let same : x ≡ y = cc in h (ap (λ (q : Refusal). q.kind) same ∙ is) }
+  never_refuse : {A : Type 0} (x : Refusal) → ((numbers x).kind ≡ kind → ⊥) → Never {A = A} (Err x)
+  never_refuse x h = record { other = λ y e is. let same : x ≡ y = cc in h (ap (λ (q : Refusal). (numbers q).kind) same ∙ is) }
 
-  never_bind : {A B : Type 0} (r : Result A) (f : A → Result B) → Never r → ((a : A) → Never (f a)) → Never (r >>= f)
-  never_bind (ok a) f h g = g a
-  never_bind (refuse x) f h g = never_refuse x (h.other x refl)
+  never_bind : {A B : Type 0} (r : Answer A) (f : A → Answer B) → Never r → ((a : A) → Never (f a)) → Never (r >>= f)
+  never_bind (Ok a) f h g = g a
+  never_bind (Err x) f h g = never_refuse x (h.other x refl)
 
-  never_check : (t : Bool) (x : Refusal) → (x.kind ≡ kind → ⊥) → Never (check t x)
+  never_check : (t : Bool) (x : Refusal) → ((numbers x).kind ≡ kind → ⊥) → Never (check t x)
   never_check true x h = never_ok tt
   never_check false x h = never_refuse x h
 
   -- a check that has another kind, or passes, and what comes behind it
-  never_then : {B : Type 0} (t : Bool) (x : Refusal) (f : Unit {0} → Result B) → (x.kind ≡ kind → t ≡ true) → (t ≡ true → Never (f tt))
+  never_then : {B : Type 0} (t : Bool) (x : Refusal) (f : Unit {0} → Answer B) → ((numbers x).kind ≡ kind → t ≡ true)
+      → (t ≡ true → Never (f tt))
       → Never (check t x >>= f)
   never_then true x f h g = g refl
   never_then false x f h g = never_refuse x (λ is. true_false (sym (h is)))
@@ -80,7 +81,7 @@ module _ (kind : ℕ) where
         never_then (even_test ss ts vs) list_shape _ (λ e. absurd (omega arith)) (λ _.
         never_then (all_up_to 127 ss) too_large _ (λ e. absurd (omega arith)) (λ _.
         never_then (all_audible vs) velocity_range _ (λ e. absurd (apart e)) (λ _.
-        never_then (hits_rise none ss ts) (invalid_layout positions_not_increasing) _ (λ e. absurd (omega arith)) (λ _.
+        never_then (hits_rise None ss ts) (invalid_layout positions_not_increasing) _ (λ e. absurd (omega arith)) (λ _.
         never_check (all_below len ts) (invalid_layout written_position_exceeds_length) (λ e. omega arith))))))
 
     name_never : (previous : Option (List ℕ)) (n : List ℕ) → Never (check_name previous n)
@@ -93,7 +94,7 @@ module _ (kind : ℕ) where
     used_never : (previous : Option (List ℕ)) (ns : List (List ℕ)) → Never (check_used previous ns)
     unfolding check_used
     used_never previous [] = never_ok tt
-    used_never previous (n ∷ ns) = never_bind (check_name previous n) _ (name_never previous n) (λ u. used_never (some n) ns)
+    used_never previous (n ∷ ns) = never_bind (check_name previous n) _ (name_never previous n) (λ u. used_never (Some n) ns)
 
     -- behind 12 and 11, only names are refused, and the room
     write_never : (pad text ends : List ℕ) (room : ℕ) → Whole pad → (13 ≡ kind → most_bytes text ≤ room)
@@ -110,7 +111,7 @@ module _ (kind : ℕ) where
         let l = map_lists pad text ends in
         let bytes = segment_bytes (given l) in
         never_bind (check_lists l) _
-        (rw (names_decide pad text ends w shaped) (used_never none (used_names (names 0 ends text) (held pad)))) (λ u.
+        (rw (names_decide pad text ends w shaped) (used_never None (used_names (names 0 ends text) (held pad)))) (λ u.
         never_then (leb (length bytes) room) (no_room 1 (length bytes)) _
         (λ e. le-leb (length bytes) room (omega (arith, segment_length l, pad_takes pad text ends w shaped, roomy e))) (λ _.
         never_ok bytes))))
@@ -118,8 +119,8 @@ module _ (kind : ℕ) where
 -- ---- 20
 
 found_never : (o : Option Bar) → Never 20 (found o)
-found_never none = never_refuse 20 unknown_bar (λ e. omega arith)
-found_never (some b) = never_ok 20 b
+found_never None = never_refuse 20 unknown_bar (λ e. omega arith)
+found_never (Some b) = never_ok 20 b
 
 save_never : (bars : List Bar) (id len : ℕ) (ss ts vs : List ℕ) → Never 20 (save bars id len ss ts vs)
 unfolding save
@@ -138,19 +139,20 @@ read_never bars id room room₂ room₃ =
     never_then 20 (leb (length b.hits) room₃) (no_room 3 (length b.hits)) _ (λ e. absurd (omega arith)) (λ _. never_ok 20 b))))
 
 -- words that are no pad hold no map
-broken : (pad : List ℕ) → (Whole pad → ⊥) → held_bars pad ≡ refuse broken_pad
+broken : (pad : List ℕ) → (Whole pad → ⊥) → held_bars pad ≡ Err broken_pad
 unfolding held_bars
 broken pad un = step (whole pad) refl
   where
-    step : (t : Bool) → whole pad ≡ t → (check t broken_pad >>= λ _. ok (held pad)) ≡ refuse broken_pad
+    step : (t : Bool) → whole pad ≡ t → (check t broken_pad >>= λ _. Ok (held pad)) ≡ Err broken_pad
     step true e = absurd (un ((whole_exactly pad).0 e))
     step false e = refl
 
-own : (pad : List ℕ) → Whole pad → held_bars pad ≡ ok (held pad)
+own : (pad : List ℕ) → Whole pad → held_bars pad ≡ Ok (held pad)
 own pad w = holds_own pad ((whole_exactly pad).1 w)
 
 -- and any other refusal is a pad's
-other_whole : {A : Type 0} (pad : List ℕ) (f : List Bar → Result A) {x : Refusal} → (x.kind ≡ 20 → ⊥) → (held_bars pad >>= f) ≡ refuse x
+other_whole : {A : Type 0} (pad : List ℕ) (f : List Bar → Answer A) {x : Refusal} → ((numbers x).kind ≡ 20 → ⊥)
+    → (held_bars pad >>= f) ≡ Err x
     → Whole pad
 other_whole {A} pad f {x} h e = step (whole pad) refl
   where
@@ -158,9 +160,9 @@ other_whole {A} pad f {x} h e = step (whole pad) refl
     step true is = (whole_exactly pad).0 is
     step false is =
         let told = broken pad (λ w. true_false (sym ((whole_exactly pad).1 w) ∙ is)) in
-        let z : ◌≡◌ {A = Result A} (refuse broken_pad) (refuse x) = rw told at e in
+        let z : ◌≡◌ {A = Answer A} (Err broken_pad) (Err x) = rw told at e in
         let same : broken_pad ≡ x = cc in
-        absurd (h (ap (λ (q : Refusal). q.kind) (sym same)))
+        absurd (h (ap (λ (q : Refusal). (numbers q).kind) (sym same)))
 
 pub broken_exactly : BrokenExactly
 unfolding pad_save pad_erase pad_read pad_write
@@ -187,7 +189,7 @@ broken_exactly pad = record {
 
 -- ---- 18
 
-free_never : (bars : List Bar) (id len : ℕ) (ss ts vs : List ℕ) → lookup bars id ≡ none → Never 18 (save bars id len ss ts vs)
+free_never : (bars : List Bar) (id len : ℕ) (ss ts vs : List ℕ) → lookup bars id ≡ None → Never 18 (save bars id len ss ts vs)
 unfolding save
 free_never bars id len ss ts vs free =
     rw free
@@ -195,11 +197,11 @@ free_never bars id len ss ts vs free =
     never_then 18 (ltb (length bars) 256 && leb (hits_in_all bars + length ss) 8192) pad_full _ (λ e. absurd (omega arith)) (λ _.
     never_ok 18 _)))
 
-taken : (bars : List Bar) (id len : ℕ) (ss ts vs : List ℕ) (o : Option Bar) → lookup bars id ≡ o → (o ≡ none → ⊥)
-    → save bars id len ss ts vs ≡ refuse already_held
+taken : (bars : List Bar) (id len : ℕ) (ss ts vs : List ℕ) (o : Option Bar) → lookup bars id ≡ o → (o ≡ None → ⊥)
+    → save bars id len ss ts vs ≡ Err already_held
 unfolding save
-taken bars id len ss ts vs none e h = absurd (h refl)
-taken bars id len ss ts vs (some b) e h = rw e
+taken bars id len ss ts vs None e h = absurd (h refl)
+taken bars id len ss ts vs (Some b) e h = rw e
 
 pub held_exactly : HeldExactly
 unfolding pad_save
@@ -213,8 +215,8 @@ held_exactly pad id len ss ts vs = (
 
 -- ---- 22
 
-range_gives : (bars : List Bar) (id len : ℕ) (ss ts vs : List ℕ) → save bars id len ss ts vs ≡ refuse velocity_range
-    → (lookup bars id ≡ none) × (check_hits len ss ts vs ≡ refuse velocity_range)
+range_gives : (bars : List Bar) (id len : ℕ) (ss ts vs : List ℕ) → save bars id len ss ts vs ≡ Err velocity_range
+    → (lookup bars id ≡ None) × (check_hits len ss ts vs ≡ Err velocity_range)
 unfolding save
 range_gives bars id len ss ts vs e =
     let (free, f) = other_passed (not (is_some (lookup bars id))) already_held _ (λ z. omega arith) e in (
@@ -227,9 +229,9 @@ range_gives bars id len ss ts vs e =
           (refused_by (check_hits len ss ts vs) _ f),
     )
 
-range_from : (bars : List Bar) (id len : ℕ) (ss ts vs : List ℕ) → lookup bars id ≡ none
-    → check_hits len ss ts vs ≡ refuse velocity_range
-    → save bars id len ss ts vs ≡ refuse velocity_range
+range_from : (bars : List Bar) (id len : ℕ) (ss ts vs : List ℕ) → lookup bars id ≡ None
+    → check_hits len ss ts vs ≡ Err velocity_range
+    → save bars id len ss ts vs ≡ Err velocity_range
 unfolding save
 range_from bars id len ss ts vs free e = rw (free, e)
 

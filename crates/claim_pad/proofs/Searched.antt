@@ -1,10 +1,10 @@
 -- What the search answers of a pad that was written: the bars whose own hits meet the phrase.
 -- Assumes nothing.
+use Rattle.segment.specs.Results.{Answer}
 use mathlib.Core.List.{List}
 use Prim.Native.Nat.{ℕ, ◌^◌, ◌≤◌}
 use lib.ListN.{length}
 use Rattle.segment.specs.Texts.{names}
-use Rattle.segment.specs.declared.replies.Counted.{Counted}
 use Rattle.segment.proofs.Shapes.{names_count}
 use Rattle.rules.specs.declared.rule.Rule.TheVariants.{Phrase}
 use Rattle.calls.proofs.Accepts.{accepted_gives}
@@ -26,7 +26,7 @@ module _ (pad text ends : List ℕ) (room : ℕ) (bytes : List ℕ) (so : Writte
       map_typed pad text ends low low_text so.shaped (accepted_gives (map_lists pad text ends) room so.written).lists
 
   -- the documents that are listed are the bars
-  pub bars_listed : (name name_ends : List ℕ) → ProperText Phrase name name_ends → (found : List ℕ) {r : Counted} {found' : List ℕ}
+  pub bars_listed : (name name_ends : List ℕ) → ProperText Phrase name name_ends → (found : List ℕ) {r : Answer ℕ} {found' : List ℕ}
       → Listed (map_lists pad text ends) Phrase (names 0 name_ends name) found r found'
       → BarsListed (held pad) (names 0 ends text) (names 0 name_ends name) found r found'
   bars_listed name name_ends proper found l =

@@ -1,10 +1,10 @@
 -- How many bytes a pad takes at most: every hit is one position of one term, and no posting is without positions.
 -- Assumes nothing.
+use Rattle.std.specs.Prelude.{None, Option, Some}
 use mathlib.Core.Path.{◌≡◌, refl, sym, ap, ◌∙◌, subst}
 use mathlib.Core.Bool.{Bool, true, false, cond}
 use mathlib.Core.List.{List, [], ◌∷◌, map}
 use mathlib.Core.Logic.{inl, inr}
-use mathlib.Core.Option.{Option, none, some}
 use Prim.Native.Nat.{ℕ, suc, ◌+◌, ◌*◌, ◌≤◌, ◌<◌}
 use native.Mathlib.Omega.{arith}
 use lib.Dec.{ltb, leb, eqb}
@@ -44,7 +44,7 @@ documents_take : (previous : Option ℕ) (ds : List Document) → documents_size
 unfolding documents_size
 documents_take previous [] = omega arith
 documents_take previous (d ∷ ds) =
-    omega (arith, encoded_size (gap previous d.id), encoded_size d.len, documents_take (some d.id) ds)
+    omega (arith, encoded_size (gap previous d.id), encoded_size d.len, documents_take (Some d.id) ds)
 
 -- 10 for a posting, which has a position, and 5 for each position
 postings_take : (previous : Option ℕ) (ps : List Posting) → ((p : Posting) → p ∈ ps → 0 < length p.positions)
@@ -56,7 +56,7 @@ postings_take previous (p ∷ ps) some_each =
       arith,
       some_each p (inl refl),
       posting_takes previous p,
-      postings_take (some p.doc) ps (λ q m. some_each q (inr m)),
+      postings_take (Some p.doc) ps (λ q m. some_each q (inr m)),
       length-append p.positions (positions_in ps),
     )
 
@@ -71,7 +71,7 @@ terms_take [] some_each = omega arith
 terms_take (t ∷ ts) some_each =
     omega (
       arith,
-      postings_take none t.postings (some_each t (inl refl)),
+      postings_take None t.postings (some_each t (inl refl)),
       terms_take ts (λ u m. some_each u (inr m)),
       length-append t.name (joined (map (λ u. u.name) ts)),
     )
@@ -154,7 +154,7 @@ pad_takes pad text ends w n =
     rw (given_back (given_of ns (held pad)))
     (omega (
       arith,
-      documents_take none (documents_of (held pad)),
+      documents_take None (documents_of (held pad)),
       length-map (held pad) (λ b. document b.id b.len),
       bars_few pad is,
       terms_take ts (some_positions ns (held pad)),

@@ -1,9 +1,9 @@
 -- A pad is written exactly where no refusal is named: for its words, for the names, for the room.
 -- Assumes nothing.
+use Rattle.std.specs.Prelude.{None, Ok}
 use mathlib.Core.Path.{◌≡◌, sym, ◌∙◌, subst}
 use mathlib.Core.Bool.{◌&&◌}
 use mathlib.Core.List.{List, [], map}
-use mathlib.Core.Option.{none}
 use Prim.Native.Nat.{ℕ, ◌+◌, ◌<◌}
 use native.Mathlib.Nat.{zero-add}
 use native.Mathlib.Omega.{arith}
@@ -14,7 +14,6 @@ use Rattle.common.specs.Elements.{◌∈◌, Rising}
 use Rattle.common.proofs.Loops.{and_left, and_right}
 use Rattle.segment.specs.Refusals.{too_large, list_shape}
 use Rattle.segment.specs.Records.{Term}
-use Rattle.segment.specs.Results.{ok}
 use Rattle.segment.specs.Texts.{ends_fit, names}
 use Rattle.segment.proofs.Accepted.{check_gives}
 use Rattle.segment.proofs.Binds.{bind_gives}
@@ -48,9 +47,9 @@ use Rattle.claim_pad.proofs.Named.{used_some, some_used, names_from, names_give,
 pub record WrittenSo (pad text ends : List ℕ) (room : ℕ) (bytes : List ℕ) : Type 0 where
   pub whole : Whole pad
   pub shaped : NamesShaped text ends
-  pub written : write (map_lists pad text ends) room ≡ ok bytes
+  pub written : write (map_lists pad text ends) room ≡ Ok bytes
 
-pub written_gives : (pad text ends : List ℕ) (room : ℕ) {bytes : List ℕ} → pad_write pad text ends room ≡ ok bytes
+pub written_gives : (pad text ends : List ℕ) (room : ℕ) {bytes : List ℕ} → pad_write pad text ends room ≡ Ok bytes
     → WrittenSo pad text ends room bytes
 unfolding pad_write write_out
 written_gives pad text ends room e =
@@ -95,13 +94,13 @@ module _ (ns : List (List ℕ)) (bars : List Bar) (rise : Rising (map (λ b. b.i
   documents_rise = rw (ids_are bars) rise
 
   postings_pass : (t : Term) → t ∈ terms_of 0 ns bars
-      → (0 < length t.postings) × (check_postings (documents_of bars) none t.postings ≡ ok tt)
+      → (0 < length t.postings) × (check_postings (documents_of bars) None t.postings ≡ Ok tt)
   postings_pass t m =
       let o = terms_gives 0 ns bars t m in
       let s = 0 + o.place in (
         o.some,
         rw o.postings_are
-            (postings_from (documents_of bars) documents_rise none (postings_of s bars) (docs_rise s bars rise) (posting_fine s bars fine)),
+            (postings_from (documents_of bars) documents_rise None (postings_of s bars) (docs_rise s bars rise) (posting_fine s bars fine)),
       )
 
   term_fine : NamesFine ns bars → (t : Term) → t ∈ terms_of 0 ns bars → TermFine (documents_of bars) t
@@ -118,9 +117,9 @@ module _ (ns : List (List ℕ)) (bars : List Bar) (rise : Rising (map (λ b. b.i
       }
 
   -- the terms pass where the names are fine
-  pub terms_pass : NamesFine ns bars → check_terms (documents_of bars) none (terms_of 0 ns bars) ≡ ok tt
+  pub terms_pass : NamesFine ns bars → check_terms (documents_of bars) None (terms_of 0 ns bars) ≡ Ok tt
   terms_pass good =
-      terms_from (documents_of bars) documents_rise none (terms_of 0 ns bars)
+      terms_from (documents_of bars) documents_rise None (terms_of 0 ns bars)
       (names_from bars 0 ns (λ i j up inside u v.
       good.rising i j (subst (Used bars) (zero-add i) u) (subst (Used bars) (zero-add j) v) up)) (term_fine good)
 
@@ -150,14 +149,14 @@ module _ (ns : List (List ℕ)) (bars : List Bar) (rise : Rising (map (λ b. b.i
 -- ---- of a whole pad and names that pass 12 and 11
 
 checked : (pad text ends : List ℕ) → Whole pad → NamesShaped text ends
-    → check_lists (map_lists pad text ends) ≡ check_terms (documents_of (held pad)) none (terms_of 0 (names 0 ends text) (held pad))
+    → check_lists (map_lists pad text ends) ≡ check_terms (documents_of (held pad)) None (terms_of 0 (names 0 ends text) (held pad))
 checked pad text ends w n =
     checks_are pad ((whole_exactly pad).1 w) text ends n.small n.number ((shape_is text ends).1 n.shape)
 
 pub names_decide : NamesDecide
 names_decide pad text ends w n =
     checked pad text ends w n
-    ∙ names_decide_terms (documents_of (held pad)) none (terms_of 0 (names 0 ends text) (held pad))
+    ∙ names_decide_terms (documents_of (held pad)) None (terms_of 0 (names 0 ends text) (held pad))
     (postings_pass (names 0 ends text) (held pad) w.ids_rise w.each)
 
 pub only_names : OnlyNames

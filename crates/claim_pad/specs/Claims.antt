@@ -1,11 +1,9 @@
 -- What is claimed of writing a pad out: of the lists that the writer is handed, of when it writes, and of the bytes; proved in
 -- proofs/Writable.antt, Sized.antt, Alike.antt, Hits.antt and Searched.antt.
-use Rattle.std.specs.Prelude.{ℕ, ◌+◌, ◌^◌, ◌≤◌, ◌≡◌, List, [], ◌∷◌, map, ◌↔◌, length}
-use Rattle.std.proofs.Math.Option.{Option, none, some}
+use Rattle.std.specs.Prelude.{None, Ok, Option, Some, ℕ, ◌+◌, ◌^◌, ◌≤◌, ◌≡◌, List, [], ◌∷◌, map, ◌↔◌, length}
 use Rattle.common.specs.Elements.{◌∈◌}
-use Rattle.segment.specs.Results.{Result, ok, ◌>>=◌}
+use Rattle.segment.specs.Results.{Answer, ◌>>=◌}
 use Rattle.segment.specs.Texts.{names}
-use Rattle.segment.specs.declared.replies.Written.{Written}
 use Rattle.rules.specs.declared.rule.Rule.TheVariants.{Phrase}
 use Rattle.calls.specs.Acceptance.{ListsFine}
 use Rattle.calls.specs.Checks.{check_name, check_lists}
@@ -30,15 +28,15 @@ use Rattle.claim_pad.specs.Written.{NamesFine, NamesShaped, map_lists, PadWritab
 -- once 20, 12 and 11 are past, writing out promises exactly what the writer does for the map's lists, refusals and all
 abbrev pub AsTheWriter : Type 0
 AsTheWriter =
-    (pad text ends : List ℕ) → Whole pad → NamesShaped text ends → (out : List ℕ) (r : Written) (out' : List ℕ)
+    (pad text ends : List ℕ) → Whole pad → NamesShaped text ends → (out : List ℕ) (r : Answer ℕ) (out' : List ℕ)
     → PadWritten pad text ends out r out' ↔ Wrote (map_lists pad text ends) out r out'
 
 -- the writer's checks of names alone, one after the other: 10, 6/6, 6/16
-unfoldable pub check_used : (previous : Option (List ℕ)) → List (List ℕ) → Result (Unit {0})
-check_used previous [] = ok tt
+unfoldable pub check_used : (previous : Option (List ℕ)) → List (List ℕ) → Answer (Unit {0})
+check_used previous [] = Ok tt
 check_used previous (n ∷ ns) = do
   _ ← check_name previous n
-  check_used (some n) ns
+  check_used (Some n) ns
 
 -- the names of sounds with hits, by rising number
 abbrev pub used_names : (names : List (List ℕ)) (bars : List Bar) → List (List ℕ)
@@ -49,7 +47,7 @@ used_names ns bars = map (λ t. t.name) (terms_of 0 ns bars)
 abbrev pub NamesDecide : Type 0
 NamesDecide =
     (pad text ends : List ℕ) → Whole pad → NamesShaped text ends
-    → check_lists (map_lists pad text ends) ≡ check_used none (used_names (names 0 ends text) (held pad))
+    → check_lists (map_lists pad text ends) ≡ check_used None (used_names (names 0 ends text) (held pad))
 
 -- and they pass exactly in these words
 abbrev pub OnlyNames : Type 0
@@ -61,7 +59,7 @@ OnlyNames =
 abbrev pub WrittenExactly : Type 0
 WrittenExactly =
     (pad text ends : List ℕ) (room : ℕ)
-    → ((bytes : List ℕ) × (pad_write pad text ends room ≡ ok bytes)) ↔ PadWritable pad text ends room
+    → ((bytes : List ℕ) × (pad_write pad text ends room ≡ Ok bytes)) ↔ PadWritable pad text ends room
 
 -- no pad takes more bytes: 72, 32 for each of 128 sounds, 10 for each of 256 bars, 15 for each of 8,192 hits, and the names' text
 abbrev pub most_bytes : (text : List ℕ) → ℕ
@@ -69,12 +67,12 @@ most_bytes text = 129608 + length text
 
 abbrev pub AlwaysEnough : Type 0
 AlwaysEnough =
-    (pad text ends : List ℕ) (room : ℕ) (bytes : List ℕ) → pad_write pad text ends room ≡ ok bytes → length bytes ≤ most_bytes text
+    (pad text ends : List ℕ) (room : ℕ) (bytes : List ℕ) → pad_write pad text ends room ≡ Ok bytes → length bytes ≤ most_bytes text
 
 -- pads that differ in velocities alone are written alike: the same promise, refusals too, for any names and any room
 abbrev pub WrittenAlike : Type 0
 WrittenAlike =
-    (pad other : List ℕ) → Whole pad → Whole other → BarsAlike (held pad) (held other) → (text ends out : List ℕ) (r : Written)
+    (pad other : List ℕ) → Whole pad → Whole other → BarsAlike (held pad) (held other) → (text ends out : List ℕ) (r : Answer ℕ)
     (out' : List ℕ)
     → PadWritten pad text ends out r out' ↔ PadWritten other text ends out r out'
 
@@ -96,7 +94,7 @@ BarsAgree =
 -- a proper phrase put to what was written of a pad of 32-bit words lists exactly these bars
 abbrev pub PhraseLists : Type 0
 PhraseLists =
-    (pad text ends : List ℕ) (room : ℕ) (bytes : List ℕ) → Below (2 ^ 32) pad → Below 256 text → pad_write pad text ends room ≡ ok bytes
+    (pad text ends : List ℕ) (room : ℕ) (bytes : List ℕ) → Below (2 ^ 32) pad → Below 256 text → pad_write pad text ends room ≡ Ok bytes
     → (name name_ends : List ℕ) → ProperText Phrase name name_ends → (found : List ℕ)
     → BarsListed (held pad) (names 0 ends text) (names 0 name_ends name) found
     (count_of (search_text bytes Phrase name name_ends (length found)))

@@ -1,14 +1,10 @@
 -- Document 02, wish 7: the number of hits on the display. It is answered as stored; every save and erasure keeps it equal to the sum over
 -- the bars held, refused calls leave it, and words whose stored number differs from that sum are 20. Proved in proofs/Counter.antt.
-use Rattle.std.specs.Prelude.{ℕ, ◌+◌, ◌≡◌, List, []}
+use Rattle.std.specs.Prelude.{Err, Ok, ℕ, ◌+◌, ◌≡◌, List, []}
+use Rattle.segment.specs.Results.{Answer}
 use Rattle.segment.specs.Refusals.{broken_pad}
 use Rattle.segment.specs.declared.refusal.Refusal.{Refusal}
-use Rattle.segment.specs.declared.replies.Counted.{Counted}
-use Rattle.segment.specs.declared.replies.Counted.TheVariants as counted
 use Rattle.segment.specs.declared.replies.BarRead.{BarRead}
-use Rattle.segment.specs.declared.replies.BarRead.TheVariants as back
-use Rattle.segment.specs.declared.replies.Written.{Written}
-use Rattle.segment.specs.declared.replies.Written.TheVariants as written
 use Rattle.pad_map.specs.Bars.{Bar, hits_in_all}
 use Rattle.pad_words.specs.Words.{held}
 use Rattle.pad_words.specs.Whole.{Whole}
@@ -39,15 +35,15 @@ ShowsFromEmpty = (events : List Event) (pad pad' : List ℕ) → Empty pad → R
 
 abbrev pub SavingAdds : Type 0
 SavingAdds = (pad : List ℕ) (id len : ℕ) (sounds steps velocities : List ℕ) (n : ℕ) (pad' : List ℕ)
-    → BarSaved pad id len sounds steps velocities (counted.Count n) pad' → pad_hits pad' ≡ pad_hits pad + n
+    → BarSaved pad id len sounds steps velocities (Ok n) pad' → pad_hits pad' ≡ pad_hits pad + n
 
 abbrev pub ErasingTakesOff : Type 0
-ErasingTakesOff = (pad : List ℕ) (id n : ℕ) (pad' : List ℕ) → BarErased pad id (counted.Count n) pad' → pad_hits pad ≡ pad_hits pad' + n
+ErasingTakesOff = (pad : List ℕ) (id n : ℕ) (pad' : List ℕ) → BarErased pad id (Ok n) pad' → pad_hits pad ≡ pad_hits pad' + n
 
 pub record LeftByRefusals (pad pad' : List ℕ) (x : Refusal) : Type 0 where
-  pub saving : (id len : ℕ) (sounds steps velocities : List ℕ) → BarSaved pad id len sounds steps velocities (counted.Refused x) pad'
+  pub saving : (id len : ℕ) (sounds steps velocities : List ℕ) → BarSaved pad id len sounds steps velocities (Err x) pad'
       → pad_hits pad' ≡ pad_hits pad
-  pub erasing : (id : ℕ) → BarErased pad id (counted.Refused x) pad' → pad_hits pad' ≡ pad_hits pad
+  pub erasing : (id : ℕ) → BarErased pad id (Err x) pad' → pad_hits pad' ≡ pad_hits pad
 
 abbrev pub RefusalsLeave : Type 0
 RefusalsLeave = (pad pad' : List ℕ) (x : Refusal) → LeftByRefusals pad pad' x
@@ -55,14 +51,14 @@ RefusalsLeave = (pad pad' : List ℕ) (x : Refusal) → LeftByRefusals pad pad' 
 -- ---- a stored number that is not the sum: 20 in each of the other calls, whatever else is handed in, and every lent place stays
 
 pub record AllBroken (pad : List ℕ) : Type 0 where
-  pub save : (id len : ℕ) (sounds steps velocities : List ℕ) (r : Counted) (pad' : List ℕ)
-      → BarSaved pad id len sounds steps velocities r pad' → (r ≡ counted.Refused broken_pad) × (pad' ≡ pad)
-  pub erase : (id : ℕ) (r : Counted) (pad' : List ℕ) → BarErased pad id r pad' → (r ≡ counted.Refused broken_pad) × (pad' ≡ pad)
-  pub read : (id : ℕ) (sounds steps velocities : List ℕ) (r : BarRead) (sounds' steps' velocities' : List ℕ)
+  pub save : (id len : ℕ) (sounds steps velocities : List ℕ) (r : Answer ℕ) (pad' : List ℕ)
+      → BarSaved pad id len sounds steps velocities r pad' → (r ≡ Err broken_pad) × (pad' ≡ pad)
+  pub erase : (id : ℕ) (r : Answer ℕ) (pad' : List ℕ) → BarErased pad id r pad' → (r ≡ Err broken_pad) × (pad' ≡ pad)
+  pub read : (id : ℕ) (sounds steps velocities : List ℕ) (r : Answer BarRead) (sounds' steps' velocities' : List ℕ)
       → BarReadBack pad id sounds steps velocities r sounds' steps' velocities'
-      → (r ≡ back.Refused broken_pad) × (sounds' ≡ sounds) × (steps' ≡ steps) × (velocities' ≡ velocities)
-  pub write : (text ends out : List ℕ) (r : Written) (out' : List ℕ)
-      → PadWritten pad text ends out r out' → (r ≡ written.Refused broken_pad) × (out' ≡ out)
+      → (r ≡ Err broken_pad) × (sounds' ≡ sounds) × (steps' ≡ steps) × (velocities' ≡ velocities)
+  pub write : (text ends out : List ℕ) (r : Answer ℕ) (out' : List ℕ)
+      → PadWritten pad text ends out r out' → (r ≡ Err broken_pad) × (out' ≡ out)
 
 abbrev pub WrongTotal : Type 0
 WrongTotal = (pad : List ℕ) → (pad_hits pad ≡ hits_in_all (held pad) → ⊥) → AllBroken pad

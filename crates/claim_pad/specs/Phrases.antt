@@ -1,9 +1,8 @@
 -- Document 02, wish 6: a phrase put to what was written out lists exactly the held bars whose own hits meet it. Nothing here names what the
 -- writer or the search computes: only the bars held, the names handed in, and the phrase rule in words.
-use Rattle.std.specs.Prelude.{ℕ, ◌+◌, ◌≤◌, ◌<◌, ◌≡◌, List, [], ◌++◌, length, drop, get_or}
+use Rattle.std.specs.Prelude.{Ok, ℕ, ◌+◌, ◌≤◌, ◌<◌, ◌≡◌, List, [], ◌++◌, length, drop, get_or}
+use Rattle.segment.specs.Results.{Answer}
 use Rattle.common.specs.Elements.{◌∈◌, Rising}
-use Rattle.segment.specs.declared.replies.Counted.{Counted}
-use Rattle.segment.specs.declared.replies.Counted.TheVariants as counted
 use Rattle.pad_map.specs.Bars.{Hit, Bar}
 
 -- a bar has a hit of a sound of this name on this step; sound s has the name at place s
@@ -25,7 +24,7 @@ pub record BarsThatMeet (bars : List Bar) (names phrase : List (List ℕ)) (ids 
   pub rising : Rising ids
 
 -- the search does not refuse: it answers their number, and they fill that many first places of the buffer
-pub record BarsListed (bars : List Bar) (names phrase : List (List ℕ)) (found : List ℕ) (r : Counted) (found' : List ℕ) : Type 0 where
+pub record BarsListed (bars : List Bar) (names phrase : List (List ℕ)) (found : List ℕ) (r : Answer ℕ) (found' : List ℕ) : Type 0 where
   pub there_are : (ids : List ℕ) × BarsThatMeet bars names phrase ids
   pub answer : (ids : List ℕ) → BarsThatMeet bars names phrase ids → length ids ≤ length found
-      → (r ≡ counted.Count (length ids)) × (found' ≡ ids ++ drop (length ids) found)
+      → (r ≡ Ok (length ids)) × (found' ≡ ids ++ drop (length ids) found)

@@ -1,11 +1,9 @@
 -- Document 02, wishes 6, 7 and 9: a pad acts as a plain map, the one that it holds. From any pad, be it all zeros, read from where it was
 -- stored, or one from which all was erased, after any calls, of any number, refused ones among them, every answer was the map's, and the
 -- words are a pad again, which holds the map after the same calls.
-use Rattle.std.specs.Prelude.{ℕ, ◌≡◌, List, [], ◌∷◌, length}
-use Rattle.segment.specs.Results.{Result, ok, refuse}
-use Rattle.segment.specs.declared.replies.Counted.{Counted}
+use Rattle.std.specs.Prelude.{Err, Ok, ℕ, ◌≡◌, List, [], ◌∷◌, length}
+use Rattle.segment.specs.Results.{Answer}
 use Rattle.segment.specs.declared.replies.BarRead.{BarRead}
-use Rattle.segment.specs.declared.replies.Written.{Written}
 use Rattle.calls.specs.Replies.{length_of_written, filled}
 use Rattle.pad_map.specs.Bars.{Bar, without, hits_in_all}
 use Rattle.pad_map.specs.Acts.{save, erase, read, write_out}
@@ -20,10 +18,10 @@ use Rattle.pad_write.specs.Promise.{PadWritten}
 -- ---- what was called, and what the caller then saw: the reply, and the lent lists afterwards
 
 pub data Event : Type 0 where
-  Saved : (id len : ℕ) (sounds steps velocities : List ℕ) → Counted → Event
-  Erased : (id : ℕ) → Counted → Event
-  Read : (id : ℕ) (sounds steps velocities : List ℕ) → BarRead → (sounds' steps' velocities' : List ℕ) → Event
-  WrittenOut : (text ends out : List ℕ) → Written → (out' : List ℕ) → Event
+  Saved : (id len : ℕ) (sounds steps velocities : List ℕ) → Answer ℕ → Event
+  Erased : (id : ℕ) → Answer ℕ → Event
+  Read : (id : ℕ) (sounds steps velocities : List ℕ) → Answer BarRead → (sounds' steps' velocities' : List ℕ) → Event
+  WrittenOut : (text ends out : List ℕ) → Answer ℕ → (out' : List ℕ) → Event
   Shown : (hits : ℕ) → Event
 
 -- each call keeps its promise on the words that the one before left; reading, writing out and the counter take the pad as a shared slice
@@ -42,13 +40,13 @@ Run (e ∷ es) pad pad' = (next : List ℕ) × Promised e pad next × Run es nex
 -- ---- the same calls on the map alone
 
 -- the map afterwards; a refusal leaves it, and so do reading, writing out and the counter
-abbrev pub saved_map : Result (List Bar) → List Bar → List Bar
-saved_map (ok after) bars = after
-saved_map (refuse x) bars = bars
+abbrev pub saved_map : Answer (List Bar) → List Bar → List Bar
+saved_map (Ok after) bars = after
+saved_map (Err x) bars = bars
 
-abbrev pub erased_map : (id : ℕ) → Result Bar → List Bar → List Bar
-erased_map id (ok b) bars = without id bars
-erased_map id (refuse x) bars = bars
+abbrev pub erased_map : (id : ℕ) → Answer Bar → List Bar → List Bar
+erased_map id (Ok b) bars = without id bars
+erased_map id (Err x) bars = bars
 
 abbrev pub map_next : Event → List Bar → List Bar
 map_next (Saved id len ss ts vs r) bars = saved_map (save bars id len ss ts vs) bars

@@ -1,11 +1,11 @@
 -- What the ranked search answers of a written segment: the matches that the definitions name, where both buffers have room for them.
 -- Assumes nothing.
+use Rattle.std.specs.Prelude.{Ok}
 use mathlib.Core.Path.{◌≡◌, ap, ◌∙◌}
 use mathlib.Core.List.{List, map}
 use Prim.Native.Nat.{ℕ, ◌≤◌}
 use lib.ListN.{length}
 use borrow.Author.Tests.{le-leb}
-use Rattle.segment.specs.Results.{ok}
 use Rattle.segment.specs.Texts.{names}
 use Rattle.segment.specs.Written.{segment_bytes}
 use Rattle.segment.proofs.Shapes.{names_count}
@@ -29,19 +29,19 @@ use Rattle.claim_joint.proofs.Answered.{decodes}
 use Rattle.claim_ranked.proofs.Those.{matches_of}
 
 pub roomed_fits : (found : List Match) (id_room count_room : ℕ) → length found ≤ id_room → length found ≤ count_room
-    → roomed found id_room count_room ≡ ok found
+    → roomed found id_room count_room ≡ Ok found
 roomed_fits found id_room count_room h k = rw (le-leb (length found) id_room h, le-leb (length found) count_room k)
 
 module _ (l : Lists) (typed : Typed l) (fine : ListsFine l) where
   ranked_back : (ns : List (List ℕ)) → Enough Phrase (length ns)
-      → ranked_answers (written (given l).documents (given l).terms) ns ≡ ok (matches_of l ns)
+      → ranked_answers (written (given l).documents (given l).terms) ns ≡ Ok (matches_of l ns)
   ranked_back ns enough =
       let documents = (given l).documents in
       let ts = (given l).terms in
       let each = decodes l typed fine in
       let busy = (not_idle_is Phrase (length ns)).1 enough in
       ranked_found (written documents ts) ns busy (names_back documents ts each (different ns))
-      ∙ ap ok (ranked_answer_same ns documents (map (λ n. term n (under ts n)) (different ns)) ts (asked_back documents ts each ns))
+      ∙ ap Ok (ranked_answer_same ns documents (map (λ n. term n (under ts n)) (different ns)) ts (asked_back documents ts each ns))
 
   pub ranked_answered : (text ends : List ℕ) → WellFormed text ends → Enough Phrase (length ends) → (id_room count_room : ℕ)
       → search_ranked (segment_bytes (given l)) text ends id_room count_room

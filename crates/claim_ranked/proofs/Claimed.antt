@@ -1,17 +1,15 @@
 -- From what the writer and the ranked search answer to the claim about a call that writes and then asks.
 -- Assumes nothing.
+use Rattle.claim_joint.specs.Demand.{answered, not_written, ProperText}
+use Rattle.std.specs.Prelude.{Err, Ok}
 use mathlib.Core.Path.{◌≡◌, refl, sym, ap, ◌∙◌}
 use mathlib.Core.List.{List, ◌++◌}
 use Prim.Native.Nat.{ℕ}
 use native.Mathlib.Omega.{arith}
 use lib.ListN.{length, take, drop, length-map}
 use Rattle.segment.specs.declared.refusal.Refusal.{Refusal}
-use Rattle.segment.specs.Results.{Result, ok}
+use Rattle.segment.specs.Results.{Answer}
 use Rattle.segment.specs.Texts.{names}
-use Rattle.segment.specs.declared.replies.Counted.{Counted}
-use Rattle.segment.specs.declared.replies.Counted.TheVariants as counted
-use Rattle.segment.specs.declared.replies.Written.{Written}
-use Rattle.segment.specs.declared.replies.Written.TheVariants as written
 use Rattle.segment.proofs.Shapes.{names_count}
 use Rattle.rules.specs.declared.rule.Rule.TheVariants.{Phrase}
 use Rattle.calls.specs.Given.{Lists}
@@ -24,25 +22,23 @@ use Rattle.calls.proofs.Accepts.{accepted_gives, accepted_is}
 use Rattle.roundtrip.specs.Claims.{Typed}
 use Rattle.write_segment.specs.Promise.{Wrote}
 use Rattle.ask_ranked.specs.Promise.{RankedAnswered}
-use Rattle.claim_joint.specs.declared.ask.Asked.TheVariants as asked
-use Rattle.claim_joint.specs.Demand.{ProperText}
-use Rattle.claim_joint.proofs.Claimed.{WroteBytes, refused_accepts, refused_left, left_alone, asked_bytes, answered_accepts, gives_back}
+use Rattle.claim_joint.proofs.Claimed.{same_written, same_answer, WroteBytes, refused_accepts, refused_left, left_alone, asked_bytes, answered_accepts, gives_back}
 use Rattle.claim_ranked.specs.Demand.{RankedListed, Demand3Ranked}
 use Rattle.claim_ranked.proofs.Those.{those_unique, matches_of, those_are_ranked}
 use Rattle.claim_ranked.proofs.Answered.{roomed_fits, ranked_answered}
 
 -- what an answer of matches leaves
-answer_of : (r : Result (List Match)) (ids counts : List ℕ) (found : List Match) → r ≡ ok found
-    → (count_of r ≡ counted.Count (length found)) × (filled match_ids r ids ≡ match_ids found ++ drop (length found) ids)
+answer_of : (r : Answer (List Match)) (ids counts : List ℕ) (found : List Match) → r ≡ Ok found
+    → (count_of r ≡ Ok (length found)) × (filled match_ids r ids ≡ match_ids found ++ drop (length found) ids)
     × (filled match_counts r counts ≡ match_counts found ++ drop (length found) counts)
 answer_of r ids counts found e =
     (rw e, rw (e, length-map found (λ m. m.doc)), rw (e, length-map found (λ m. m.count)))
 
-module _ (l : Lists) (room : ℕ) (bytes : List ℕ) (typed : Typed l) (e : write l room ≡ ok bytes) where
+module _ (l : Lists) (room : ℕ) (bytes : List ℕ) (typed : Typed l) (e : write l room ≡ Ok bytes) where
   fine : ListsFine l
   fine = (accepted_gives l room e).lists
 
-  listed : (text ends : List ℕ) → ProperText Phrase text ends → (ids counts : List ℕ) {r : Result (List Match)}
+  listed : (text ends : List ℕ) → ProperText Phrase text ends → (ids counts : List ℕ) {r : Answer (List Match)}
       → r ≡ search_ranked bytes text ends (length ids) (length counts)
       → RankedListed l (names 0 ends text) ids counts (count_of r) (filled match_ids r ids) (filled match_counts r counts)
   listed text ends proper ids counts is =
@@ -59,9 +55,9 @@ module _ (l : Lists) (room : ℕ) (bytes : List ℕ) (typed : Typed l) (e : writ
 
 -- ---- not written
 
-pub refused_ranked : (l : Lists) (out : List ℕ) {w : Written} {out' : List ℕ} → Wrote l out w out' → {x : Refusal} → w ≡ written.Refused x
+pub refused_ranked : (l : Lists) (out : List ℕ) {w : (Answer ℕ)} {out' : List ℕ} → Wrote l out w out' → {x : Refusal} → w ≡ Err x
     → (ns : List (List ℕ)) (Proper : Type 0) (ids counts : List ℕ)
-    → Demand3Ranked l out ns Proper ids counts (asked.NotWritten x) out' ids counts
+    → Demand3Ranked l out ns Proper ids counts (not_written x) out' ids counts
 refused_ranked l out wrote e ns Proper ids counts = record {
   accepts = refused_accepts l out wrote e;
   refuses = λ x is. (refused_left l out wrote e, refl, refl);
@@ -73,9 +69,9 @@ refused_ranked l out wrote e ns Proper ids counts = record {
 -- ---- written and asked
 
 module _ (l : Lists) (out : List ℕ) (typed : Typed l) {n : ℕ} {out' : List ℕ} (w : WroteBytes l out n out') where
-  pub asked_ranked : (name ends ids counts : List ℕ) {c : Counted} {ids' counts' : List ℕ}
+  pub asked_ranked : (name ends ids counts : List ℕ) {c : (Answer ℕ)} {ids' counts' : List ℕ}
       → RankedAnswered (take n out') name ends ids counts c ids' counts'
-      → Demand3Ranked l out (names 0 ends name) (ProperText Phrase name ends) ids counts (asked.Answer n c) out' ids' counts'
+      → Demand3Ranked l out (names 0 ends name) (ProperText Phrase name ends) ids counts (answered n c) out' ids' counts'
   asked_ranked name ends ids counts {c} p =
       let r = search_ranked (take n out') name ends (length ids) (length counts) in
       let bytes = ap (λ b. search_ranked b name ends (length ids) (length counts)) (asked_bytes l out typed w) in
@@ -83,12 +79,10 @@ module _ (l : Lists) (out : List ℕ) (typed : Typed l) {n : ℕ} {out' : List �
         accepts = answered_accepts l out typed w c;
         refuses = λ x is. let z : ◌≡◌ {A = ℕ} 0 1 = cc in absurd (omega arith);
         search_refuses = λ m x is.
-            let e : c ≡ counted.Refused x = cc in
-            let refused = sym p.reply ∙ e in
+            let refused = sym p.reply ∙ same_answer is in
             (p.ids_left ∙ left_alone match_ids r ids refused, p.counts_left ∙ left_alone match_counts r counts refused);
-        gives_back = λ m d is. let same : n ≡ m = cc in gives_back l out typed w same;
+        gives_back = λ m d is. gives_back l out typed w (same_written is);
         lists = λ m d is proper.
-            let same : c ≡ d = cc in
-            rw (sym same, p.reply, p.ids_left, p.counts_left)
+            rw (sym (same_answer is), p.reply, p.ids_left, p.counts_left)
             (listed l (length out) w.bytes typed w.answer name ends proper ids counts bytes);
       }

@@ -4,7 +4,7 @@ ghost use Rattle.claim_ranked.specs.Promise.{WrittenThenRanked};
 
 use ask_ranked::questions::phrase_match_ranked;
 use claim_joint::ask::Asked;
-use segment::replies::Written;
+use segment::refusal::Refusal;
 use write_segment::write::write_positional_segment;
 
 // Writes, then asks for the ranked answer to a phrase: the writer's refusal, or the length written and the search's answer.
@@ -22,11 +22,11 @@ pub fn write_then_rank(
     name_ends: &[u32],
     found: &mut [u32],
     counts: &mut [u32],
-) -> Asked
+) -> Result<Asked, Refusal>
     ensures { WrittenThenRanked (given_lists ids lengths text ends posting_counts posting_ids position_counts positions)
         out.old name.now name_ends.now found.old counts.old result out.new found.new counts.new }
 {
-    match write_positional_segment(
+    let written = write_positional_segment(
         ids,
         lengths,
         text,
@@ -36,11 +36,7 @@ pub fn write_then_rank(
         position_counts,
         positions,
         out,
-    ) {
-        Written::Length(n) => {
-            let answer = phrase_match_ranked(&out[..n], name, name_ends, found, counts);
-            Asked::Answer(n, answer)
-        }
-        Written::Refused(x) => Asked::NotWritten(x),
-    }
+    )?;
+    let answer = phrase_match_ranked(&out[..written], name, name_ends, found, counts);
+    Ok(Asked { written, answer })
 }

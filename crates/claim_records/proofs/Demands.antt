@@ -1,18 +1,15 @@
 -- What the call ensures of the lists in which the records stand taken apart is demand 3 over the records.
 -- Assumes nothing.
+use Rattle.claim_joint.specs.Demand.{not_written}
+use Rattle.std.specs.Prelude.{Err, Ok}
 use mathlib.Core.Path.{◌≡◌, refl, sym, ap, ◌∙◌, subst}
-use mathlib.Core.Bool.{cond}
 use mathlib.Core.List.{List}
 use Prim.Native.Nat.{ℕ}
-use native.Mathlib.Omega.{arith}
 use lib.ListN.{length}
 use Rattle.segment.specs.declared.refusal.Refusal.{Refusal}
-use Rattle.segment.specs.declared.checked.Checked.TheVariants as check
-use Rattle.segment.specs.Refusals.{too_large, list_shape}
-use Rattle.segment.specs.Results.{Result, ok, refuse}
+use Rattle.segment.specs.Results.{Answer}
 use Rattle.segment.specs.Steps.{checked}
 use Rattle.calls.specs.Given.{Lists, lists}
-use Rattle.calls.specs.Checks.{small}
 use Rattle.segment.proofs.Binds.{refuse_ok}
 use Rattle.segment.proofs.Accepted.{refused_is, passed_ok}
 use Rattle.write_records.specs.declared.exchange.DocumentLength.{DocumentLength}
@@ -20,33 +17,32 @@ use Rattle.write_records.specs.Steps.{Three, three, exchanged, check_places}
 use Rattle.write_records.proofs.Exchanging.{given_back}
 use Rattle.write_records.proofs.Entered.{handed_in, standing, fits_standing, places_fit, places_misfit}
 use Rattle.claim_joint.specs.declared.ask.Asked.{Asked}
-use Rattle.claim_joint.specs.declared.ask.Asked.TheVariants as asked
 use Rattle.claim_joint.specs.declared.ask.Question.{Question}
 use Rattle.claim_joint.specs.Promise.{WrittenThenAsked}
-use Rattle.claim_records.specs.Promise.{Misfits, Demand3Records}
+use Rattle.claim_records.specs.Promise.{Demand3Records}
 use Rattle.claim_records.specs.Steps.{AskedApart}
 
-same_refusal : {x y : Refusal} → ◌≡◌ {A = Result (Unit {0})} (refuse x) (refuse y) → x ≡ y
+same_refusal : {x y : Refusal} → ◌≡◌ {A = Answer (Unit {0})} (Err x) (Err y) → x ≡ y
 same_refusal e = cc
 
 module _ (count : ℕ) (l : Lists) (out found : List ℕ) {q : Question} {name name_ends other : List ℕ} where
-  pub refused_apart : {x : Refusal} → check.Refused x ≡ checked (check_places count l)
-      → AskedApart count l out q name name_ends other found (asked.NotWritten x) out found
+  pub refused_apart : {x : Refusal} → Err x ≡ checked (check_places count l)
+      → AskedApart count l out q name name_ends other found (not_written x) out found
   refused_apart e =
       let r = refused_is (check_places count l) e in
       record {
         passed = λ p. refuse_ok (sym r ∙ p);
-        refused = λ y p. (ap asked.NotWritten (same_refusal (sym r ∙ p)), refl, refl);
+        refused = λ y p. (ap not_written (same_refusal (sym r ∙ p)), refl, refl);
       }
 
-  pub passed_apart : {r : Asked} {out' found' : List ℕ} → check.Passed ≡ checked (check_places count l)
+  pub passed_apart : {r : Answer Asked} {out' found' : List ℕ} → (Ok tt) ≡ checked (check_places count l)
       → WrittenThenAsked l out q name name_ends other found r out' found'
       → AskedApart count l out q name name_ends other found r out' found'
   passed_apart e d = record { passed = λ _. d; refused = λ y p. refuse_ok (sym p ∙ (passed_ok (check_places count l) e).1) }
 
 module _ (ds : List DocumentLength) (xs ys text ends posting_counts posting_ids position_counts positions : List ℕ) {out found : List ℕ}
     {q : Question}
-    {name name_ends other : List ℕ} {r : Asked} {out' found' : List ℕ} where
+    {name name_ends other : List ℕ} {r : Answer Asked} {out' found' : List ℕ} where
   pub asked_records : AskedApart (length ds)
       (standing ds xs ys text ends posting_counts posting_ids position_counts positions) out q name name_ends other found r out' found'
       → Demand3Records (handed_in ds xs ys text ends posting_counts posting_ids position_counts positions) ds xs ys out q name name_ends other found r ds xs ys out' found'

@@ -5,7 +5,7 @@ ghost use Rattle.claim_records.specs.Steps.{AskedApart};
 ghost use Rattle.claim_records.specs.Promise.{Demand3Records};
 
 use claim_joint::ask::{Asked, Question, write_then_ask};
-use segment::checked::Checked;
+use segment::refusal::Refusal;
 use write_records::exchange::{DocumentLength, exchange};
 use write_records::write::check_places;
 
@@ -26,11 +26,11 @@ fn ask_apart(
     name_ends: &[u32],
     other: &[u8],
     found: &mut [u32],
-) -> Asked
+) -> Result<Asked, Refusal>
     ensures { AskedApart count (given_lists ids lengths text ends posting_counts posting_ids position_counts positions)
         out.old question name.now name_ends.now other.now found.old result out.new found.new }
 {
-    match check_places(
+    check_places(
         count,
         ids,
         lengths,
@@ -40,25 +40,23 @@ fn ask_apart(
         posting_ids,
         position_counts,
         positions,
-    ) {
-        Checked::Refused(x) => Asked::NotWritten(x),
-        Checked::Passed => write_then_ask(
-            ids,
-            lengths,
-            text,
-            ends,
-            posting_counts,
-            posting_ids,
-            position_counts,
-            positions,
-            out,
-            question,
-            name,
-            name_ends,
-            other,
-            found,
-        ),
-    }
+    )?;
+    write_then_ask(
+        ids,
+        lengths,
+        text,
+        ends,
+        posting_counts,
+        posting_ids,
+        position_counts,
+        positions,
+        out,
+        question,
+        name,
+        name_ends,
+        other,
+        found,
+    )
 }
 
 // Writes from records, then asks: the writer's refusal, or the length written and the search's answer. Records and the two lent lists are
@@ -79,7 +77,7 @@ pub fn write_records_then_ask(
     name_ends: &[u32],
     other: &[u8],
     found: &mut [u32],
-) -> Asked
+) -> Result<Asked, Refusal>
     ensures { Demand3Records (taken_apart documents.old text.now ends.now posting_counts.now posting_ids.now
         position_counts.now positions.now) documents.old ids.old lengths.old out.old question name.now name_ends.now
         other.now found.old result documents.new ids.new lengths.new out.new found.new }

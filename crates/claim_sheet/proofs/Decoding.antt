@@ -1,12 +1,11 @@
 -- What decoding gives of every sound: its documents rise, the bar's positions rise and are below its length, and no more than that.
 -- Assumes nothing.
+use Rattle.std.specs.Prelude.{Ok, Some}
 use mathlib.Core.Path.{◌≡◌, sym, subst}
 use mathlib.Core.List.{List, [], ◌∷◌}
-use mathlib.Core.Option.{some}
 use Prim.Native.Nat.{ℕ}
 use Rattle.common.specs.Elements.{◌∈◌}
 use Rattle.common.proofs.Elements.{each}
-use Rattle.segment.specs.Results.{ok}
 use Rattle.segment.specs.Records.{Document, Term, Entry}
 use Rattle.segment.specs.Metadata.{length_of}
 use Rattle.segment.specs.Postings.{decode}
@@ -18,8 +17,8 @@ use Rattle.calls.proofs.Below.{decoded_below}
 use Rattle.read_terms.proofs.InDocument.{own_few}
 use Rattle.claim_sheet.proofs.Hitting.{Fits}
 
-module _ (documents : List Document) (id len : ℕ) (known : length_of documents id ≡ some len) where
-  pub all_fit : (es : List Entry) {ts : List Term} → decode_all documents es ≡ ok ts → (t : Term) → t ∈ ts → Fits id len t
+module _ (documents : List Document) (id len : ℕ) (known : length_of documents id ≡ Some len) where
+  pub all_fit : (es : List Entry) {ts : List Term} → decode_all documents es ≡ Ok ts → (t : Term) → t ∈ ts → Fits id len t
   unfolding decode_all
   all_fit [] d t m = absurd (subst (λ (ts : List Term). t ∈ ts) (sym (ok_same d)) m)
   all_fit (e ∷ es) d t m =

@@ -1,9 +1,10 @@
 -- Opening and decoding refuse with kinds up to 10: 12, 13, 16 and 17 are none of theirs.
 -- Assumes nothing.
+use Rattle.segment.specs.declared.refusal.Section.{Section}
+use Rattle.std.specs.Prelude.{Err, None, Ok, Option, Some}
 use mathlib.Core.Path.{◌≡◌, refl}
 use mathlib.Core.Bool.{Bool, true, false}
 use mathlib.Core.List.{List, [], ◌∷◌}
-use mathlib.Core.Option.{Option, none, some}
 use Prim.Native.Nat.{ℕ, zero, suc, ◌+◌, ◌*◌, ◌^◌, ◌<◌}
 use native.Mathlib.Omega.{arith}
 use lib.Dec.{ltb, leb, eqb}
@@ -12,8 +13,8 @@ use Rattle.leb128.specs.Leb128.{Leb, stored}
 use Rattle.crc32.specs.Crc32.{crc32_of}
 use Rattle.utf8.specs.Utf8.{utf8}
 use Rattle.segment.specs.declared.refusal.Refusal.{Refusal}
-use Rattle.segment.specs.Refusals.{postings, document_metadata}
-use Rattle.segment.specs.Results.{Result, ok, refuse, ◌>>=◌, check}
+use Rattle.segment.specs.Refusals.{numbers, postings, document_metadata}
+use Rattle.segment.specs.Results.{Answer, ◌>>=◌, check}
 use Rattle.segment.specs.Records.{Document, Entry, field, header_size, entry_size, number, number_or, at_gap, rises}
 use Rattle.segment.specs.Names.{same}
 use Rattle.segment.specs.Metadata.{read_document, read_documents, metadata, length_of}
@@ -24,37 +25,37 @@ use Rattle.segment.specs.Opening.{magic, Sections, ranges, sections, section_che
 use Rattle.segment.specs.Contents.{decode_all}
 
 -- the kind of a refusal is below 11
-pub record Early {A : Type 0} (r : Result A) : Type 0 where
-  pub kind : (x : Refusal) → r ≡ refuse x → x.kind < 11
+pub record Early {A : Type 0} (r : Answer A) : Type 0 where
+  pub kind : (x : Refusal) → r ≡ Err x → (numbers x).kind < 11
 
-accepts : {A : Type 0} {a : A} → Early (ok a)
+accepts : {A : Type 0} {a : A} → Early (Ok a)
 accepts = record { kind = λ x e. let z : ◌≡◌ {A = ℕ} 0 1 = cc in absurd (omega arith) }
 
-refuses : {A : Type 0} (x : Refusal) → x.kind < 11 → Early {A = A} (refuse x)
+refuses : {A : Type 0} (x : Refusal) → (numbers x).kind < 11 → Early {A = A} (Err x)
 refuses x h = record { kind = λ y e. let same : x ≡ y = cc in rw (← same) h }
 
-then : {A B : Type 0} {r : Result A} (f : A → Result B) → Early r → ((a : A) → Early (f a)) → Early (r >>= f)
-then {r = ok a} f e h = h a
-then {r = refuse x} f e h = refuses x (e.kind x refl)
+then : {A B : Type 0} {r : Answer A} (f : A → Answer B) → Early r → ((a : A) → Early (f a)) → Early (r >>= f)
+then {r = Ok a} f e h = h a
+then {r = Err x} f e h = refuses x (e.kind x refl)
 
-test : {B : Type 0} (t : Bool) (x : Refusal) (f : Unit {0} → Result B) → x.kind < 11 → Early (f tt) → Early (check t x >>= f)
+test : {B : Type 0} (t : Bool) (x : Refusal) (f : Unit {0} → Answer B) → (numbers x).kind < 11 → Early (f tt) → Early (check t x >>= f)
 test true x f h e = e
 test false x f h e = refuses x h
 
-last : (t : Bool) (x : Refusal) → x.kind < 11 → Early (check t x)
+last : (t : Bool) (x : Refusal) → (numbers x).kind < 11 → Early (check t x)
 last true x h = accepts
 last false x h = refuses x h
 
 -- ---- numbers and parts
 
-a_number : (section index : ℕ) (bytes : List ℕ) → Early (number section index bytes)
+a_number : (section : Section) (index : ℕ) (bytes : List ℕ) → Early (number section index bytes)
 a_number section index bytes = go (stored bytes)
   where
     go : (o : Option Leb) → Early (number_or section index bytes o)
-    go none = refuses _ (omega arith)
-    go (some n) = accepts
+    go None = refuses _ (omega arith)
+    go (Some n) = accepts
 
-a_part : (section at n : ℕ) (whole : List ℕ) → Early (part section at n whole)
+a_part : (section : Section) (at n : ℕ) (whole : List ℕ) → Early (part section at n whole)
 unfolding part
 a_part section at n whole =
     test (ltb (at + n) (2 ^ 64)) _ _ (omega arith)
@@ -75,12 +76,12 @@ unfolding read_documents
 some_documents zero place previous bytes = accepts
 some_documents (suc n) place previous bytes =
     then _ (a_document place previous bytes) (λ d.
-    then _ (some_documents n (suc place) (some d.got.id) d.rest) (λ more. accepts))
+    then _ (some_documents n (suc place) (Some d.got.id) d.rest) (λ more. accepts))
 
 all_documents : (count : ℕ) (bytes : List ℕ) → Early (metadata count bytes)
 unfolding metadata
 all_documents count bytes =
-    then _ (some_documents count 0 none bytes) (λ all. test (eqb (length all.rest) 0) _ _ (omega arith) accepts)
+    then _ (some_documents count 0 None bytes) (λ all. test (eqb (length all.rest) 0) _ _ (omega arith) accepts)
 
 an_entry : (previous : Option (List ℕ)) (bytes names lists : List ℕ) → Early (read_entry previous bytes names lists)
 unfolding read_entry read_list_range
@@ -96,12 +97,12 @@ unfolding read_entries
 some_entries zero previous bytes names lists = accepts
 some_entries (suc n) previous bytes names lists =
     then _ (an_entry previous bytes names lists) (λ e.
-    then _ (some_entries n (some e.name) (drop entry_size bytes) names lists) (λ more. accepts))
+    then _ (some_entries n (Some e.name) (drop entry_size bytes) names lists) (λ more. accepts))
 
 all_entries : (count : ℕ) (bytes names lists : List ℕ) → Early (directory count bytes names lists)
 unfolding directory
 all_entries count bytes names lists =
-    test (eqb (length bytes) (entry_size * count)) _ _ (omega arith) (some_entries count none bytes names lists)
+    test (eqb (length bytes) (entry_size * count)) _ _ (omega arith) (some_entries count None bytes names lists)
 
 the_ranges : (bytes : List ℕ) → Early (ranges bytes)
 unfolding ranges
@@ -122,7 +123,7 @@ the_sections bytes =
     (test (eqb (field 4 12 bytes) 0) _ _ (omega arith)
     (the_ranges bytes))))
 
-a_checksum : (section : ℕ) (part : List ℕ) (at : ℕ) (bytes : List ℕ) → Early (section_checksum section part at bytes)
+a_checksum : (section : Section) (part : List ℕ) (at : ℕ) (bytes : List ℕ) → Early (section_checksum section part at bytes)
 unfolding section_checksum
 a_checksum section part at bytes = last (eqb (crc32_of part) (field 4 at bytes)) _ (omega arith)
 
@@ -141,8 +142,8 @@ opening_early bytes =
 
 -- ---- decoding
 
-a_value : (overflow order : Refusal) → overflow.kind < 11 → order.kind < 11 → (index : ℕ) (previous : Option ℕ) (bytes : List ℕ)
-    → Early (read_value overflow order index previous bytes)
+a_value : (overflow order : Refusal) → (numbers overflow).kind < 11 → (numbers order).kind < 11
+    → (index : ℕ) (previous : Option ℕ) (bytes : List ℕ) → Early (read_value overflow order index previous bytes)
 unfolding read_value
 a_value overflow order h k index previous bytes =
     then _ (a_number postings index bytes) (λ gap.
@@ -155,11 +156,11 @@ some_positions zero index len previous bytes = accepts
 some_positions (suc n) index len previous bytes =
     then _
     (then _ (a_value _ _ (omega arith) (omega arith) index previous bytes) (λ p. test (ltb p.got len) _ _ (omega arith) accepts))
-    (λ p. then _ (some_positions n (suc index) len (some p.got) p.rest) (λ more. accepts))
+    (λ p. then _ (some_positions n (suc index) len (Some p.got) p.rest) (λ more. accepts))
 
 a_length : (o : Option ℕ) → Early (known o)
-a_length none = refuses _ (omega arith)
-a_length (some len) = accepts
+a_length None = refuses _ (omega arith)
+a_length (Some len) = accepts
 
 module _ (documents : List Document) where
   a_posting : (place : ℕ) (previous : Option ℕ) (bytes : List ℕ) → Early (read_posting place documents previous bytes)
@@ -169,20 +170,20 @@ module _ (documents : List Document) where
       (then _ (a_value _ _ (omega arith) (omega arith) place previous bytes) (λ doc.
       then _ (a_length (length_of documents doc.got)) (λ len.
       then _ (a_number postings place doc.rest) (λ count. test (ltb 0 count.got) _ _ (omega arith) accepts))))
-      (λ head. then _ (some_positions head.got.count place head.got.len none head.rest) (λ all. accepts))
+      (λ head. then _ (some_positions head.got.count place head.got.len None head.rest) (λ all. accepts))
 
   some_postings : (count place : ℕ) (previous : Option ℕ) (bytes : List ℕ) → Early (read_postings count place documents previous bytes)
   unfolding read_postings
   some_postings zero place previous bytes = accepts
   some_postings (suc n) place previous bytes =
       then _ (a_posting place previous bytes) (λ p.
-      then _ (some_postings n (suc place) (some p.got.doc) p.rest) (λ more. accepts))
+      then _ (some_postings n (suc place) (Some p.got.doc) p.rest) (λ more. accepts))
 
   a_list : (e : Entry) → Early (decode documents e)
   unfolding decode all_postings
   a_list e =
       test (eqb (crc32_of e.list) e.checksum) _ _ (omega arith)
-      (then _ (some_postings e.df 0 none e.list) (λ all. test (eqb (length all.rest) 0) _ _ (omega arith) accepts))
+      (then _ (some_postings e.df 0 None e.list) (λ all. test (eqb (length all.rest) 0) _ _ (omega arith) accepts))
 
   pub decoding_early : (es : List Entry) → Early (decode_all documents es)
   unfolding decode_all

@@ -1,5 +1,6 @@
 -- How many bytes a sheet has at most: 81 for the first line, 117 for each term.
 -- Assumes nothing.
+use Rattle.std.specs.Prelude.{Ok}
 use mathlib.Core.Path.{◌≡◌, refl, sym, ap, ◌∙◌}
 use mathlib.Core.List.{List, [], ◌∷◌}
 use mathlib.Core.Logic.{inl, inr}
@@ -7,7 +8,6 @@ use Prim.Native.Nat.{ℕ, ◌+◌, ◌*◌, ◌≤◌, ◌<◌}
 use native.Mathlib.Omega.{arith}
 use lib.ListN.{length, length-append}
 use Rattle.common.specs.Elements.{◌∈◌}
-use Rattle.segment.specs.Results.{ok}
 use Rattle.segment.specs.Records.{Document, Term, Entry, Segment}
 use Rattle.segment.specs.Postings.{decode}
 use Rattle.segment.specs.Contents.{decode_all}
@@ -23,7 +23,7 @@ use Rattle.claim_sheet.proofs.Agreed.{computed, sheet_in_words}
 
 -- ---- as many sounds as terms
 
-sounds_many : (documents : List Document) (es : List Entry) {ts : List Term} → decode_all documents es ≡ ok ts → length ts ≡ length es
+sounds_many : (documents : List Document) (es : List Entry) {ts : List Term} → decode_all documents es ≡ Ok ts → length ts ≡ length es
 unfolding decode_all
 sounds_many documents [] d = sym (ap length (ok_same d))
 sounds_many documents (e ∷ es) d =

@@ -13,8 +13,7 @@ use borrow.Author.Tests.{eqb-true, eqb-false}
 use Rattle.common.proofs.Loops.{lt_or_ge}
 use Rattle.common.proofs.Rising.{rising_unique}
 use Rattle.segment.specs.Records.{Term}
-use Rattle.claim_sheet.specs.Words.{Hit, Hits, InColumns, FirstLine, SoundLine, SoundLines, none, silent, drawn}
-use Rattle.claim_sheet.specs.Words.{at_step, in_bytes}
+use Rattle.claim_sheet.specs.Words.{Hit, Hits, InColumns, FirstLine, SoundLine, SoundLines, none, silent, drawn, at_step, in_bytes}
 use Rattle.claim_sheet.specs.Claims.{OneSheet}
 use Rattle.claim_sheet.proofs.Decimals.{columns_same}
 

@@ -1,16 +1,15 @@
 -- Of what was written, the sheet shows what was handed in, and refuses 16 and 17 only.
 -- Assumes nothing.
+use Rattle.std.specs.Prelude.{Err, None, Ok, Option, Some}
 use mathlib.Core.Path.{◌≡◌, refl, sym, ap, ◌∙◌, subst}
 use mathlib.Core.List.{List}
 use mathlib.Core.Logic.{◌⊎◌, ⊎_elim, inl, inr}
-use mathlib.Core.Option.{Option, none, some}
 use Prim.Native.Nat.{ℕ, ◌≤◌, ◌<◌}
 use native.Mathlib.Omega.{arith}
 use Rattle.common.specs.Elements.{◌∈◌}
 use Rattle.common.proofs.Loops.{lt_or_ge}
 use Rattle.segment.specs.declared.refusal.Refusal.{Refusal}
-use Rattle.segment.specs.Refusals.{unknown_bar, bar_too_long}
-use Rattle.segment.specs.Results.{ok, refuse}
+use Rattle.segment.specs.Refusals.{numbers, unknown_bar, bar_too_long}
 use Rattle.segment.specs.Records.{Document, Segment, Given}
 use Rattle.segment.specs.Metadata.{document, length_of}
 use Rattle.segment.specs.Opening.{open_segment}
@@ -36,11 +35,11 @@ use Rattle.claim_sheet.proofs.Standing.{hits_stand}
 -- the bytes written open as what was handed in, and every list is decoded
 record Opened (l : Lists) (bytes : List ℕ) : Type 0 where
   segment : Segment
-  opens : open_segment bytes ≡ ok segment
+  opens : open_segment bytes ≡ Ok segment
   documents : segment.documents ≡ (given l).documents
-  decoded : decode_all segment.documents segment.entries ≡ ok (given l).terms
+  decoded : decode_all segment.documents segment.entries ≡ Ok (given l).terms
 
-opened : (l : Lists) (bytes : List ℕ) → decode_segment bytes ≡ ok (given l) → Opened l bytes
+opened : (l : Lists) (bytes : List ℕ) → decode_segment bytes ≡ Ok (given l) → Opened l bytes
 unfolding decode_segment
 opened l bytes back =
     let (s, o, f) = bind_gives (open_segment bytes) _ back in
@@ -49,7 +48,7 @@ opened l bytes back =
       segment = s;
       opens = o;
       documents = ap (λ (x : Given). x.documents) (ok_same g);
-      decoded = d ∙ ap (λ (x : Given). ok x.terms) (ok_same g);
+      decoded = d ∙ ap (λ (x : Given). Ok x.terms) (ok_same g);
     }
 
 module _ (l : Lists) (fine : ListsFine l) (bytes : List ℕ) (w : Opened l bytes) (id : ℕ) where
@@ -61,26 +60,26 @@ module _ (l : Lists) (fine : ListsFine l) (bytes : List ℕ) (w : Opened l bytes
   bar_here len b = subst (λ (ds : List Document). document id len ∈ ds) w.documents b
 
   data Outcome : Type 0 where
-    is_unknown : ((len : ℕ) → Bar l id len → ⊥) → bar_sheet bytes id ≡ refuse unknown_bar → Outcome
-    is_long : (len : ℕ) → Bar l id len → 64 < len → bar_sheet bytes id ≡ refuse bar_too_long → Outcome
-    is_shown : (len : ℕ) → Bar l id len → len ≤ 64 → bar_sheet bytes id ≡ ok (sheet id len (given l).terms) → Outcome
+    is_unknown : ((len : ℕ) → Bar l id len → ⊥) → bar_sheet bytes id ≡ Err unknown_bar → Outcome
+    is_long : (len : ℕ) → Bar l id len → 64 < len → bar_sheet bytes id ≡ Err bar_too_long → Outcome
+    is_shown : (len : ℕ) → Bar l id len → len ≤ 64 → bar_sheet bytes id ≡ Ok (sheet id len (given l).terms) → Outcome
 
-  sheet_shown : (len : ℕ) → Bar l id len → len ≤ 64 → bar_sheet bytes id ≡ ok (sheet id len (given l).terms)
+  sheet_shown : (len : ℕ) → Bar l id len → len ≤ 64 → bar_sheet bytes id ≡ Ok (sheet id len (given l).terms)
   sheet_shown len b short = computed bytes id w.opens (bar_there len b) short w.decoded
 
-  long_refused : (len : ℕ) → Bar l id len → 64 < len → bar_sheet bytes id ≡ refuse bar_too_long
+  long_refused : (len : ℕ) → Bar l id len → 64 < len → bar_sheet bytes id ≡ Err bar_too_long
   long_refused len b far = (refuses_exactly bytes id bar_too_long).1 (too_long w.opens (bar_there len b) far)
 
   outcome : Outcome
   outcome = by_length (length_of w.segment.documents id) refl
     where
       by_length : (o : Option ℕ) → length_of w.segment.documents id ≡ o → Outcome
-      by_length none e =
+      by_length None e =
           let no_bar = none_gives bytes w.opens id e in
           is_unknown
           (λ len b. no_bar len (bar_there len b))
           ((refuses_exactly bytes id unknown_bar).1 (unknown w.opens no_bar))
-      by_length (some len) e =
+      by_length (Some len) e =
           let b = bar_here len (bar_gives bytes w.opens id len e) in
           ⊎_elim
           (λ (far : 64 < len). is_long len b far (long_refused len b far))
@@ -88,10 +87,10 @@ module _ (l : Lists) (fine : ListsFine l) (bytes : List ℕ) (w : Opened l bytes
           (lt_or_ge 64 len)
 
   -- 16 is not 17
-  apart : {P : Type 0} → bar_sheet bytes id ≡ refuse unknown_bar → bar_sheet bytes id ≡ refuse bar_too_long → P
-  apart a b = let z : ◌≡◌ {A = ℕ} 16 17 = ap (λ (x : Refusal). x.kind) (refuse_same (sym a ∙ b)) in absurd (omega arith)
+  apart : {P : Type 0} → bar_sheet bytes id ≡ Err unknown_bar → bar_sheet bytes id ≡ Err bar_too_long → P
+  apart a b = let z : ◌≡◌ {A = ℕ} 16 17 = ap (λ (x : Refusal). (numbers x).kind) (refuse_same (sym a ∙ b)) in absurd (omega arith)
 
-  unknown_gives : bar_sheet bytes id ≡ refuse unknown_bar → (len : ℕ) → Bar l id len → ⊥
+  unknown_gives : bar_sheet bytes id ≡ Err unknown_bar → (len : ℕ) → Bar l id len → ⊥
   unknown_gives e = go outcome
     where
       go : Outcome → (len : ℕ) → Bar l id len → ⊥
@@ -99,15 +98,15 @@ module _ (l : Lists) (fine : ListsFine l) (bytes : List ℕ) (w : Opened l bytes
       go (is_long len b far r) = apart e r
       go (is_shown len b short r) = ok_refuse (sym r ∙ e)
 
-  unknown_from : ((len : ℕ) → Bar l id len → ⊥) → bar_sheet bytes id ≡ refuse unknown_bar
+  unknown_from : ((len : ℕ) → Bar l id len → ⊥) → bar_sheet bytes id ≡ Err unknown_bar
   unknown_from no_bar = go outcome
     where
-      go : Outcome → bar_sheet bytes id ≡ refuse unknown_bar
+      go : Outcome → bar_sheet bytes id ≡ Err unknown_bar
       go (is_unknown _ r) = r
       go (is_long len b far r) = absurd (no_bar len b)
       go (is_shown len b short r) = absurd (no_bar len b)
 
-  long_gives : bar_sheet bytes id ≡ refuse bar_too_long → (len : ℕ) × Bar l id len × (64 < len)
+  long_gives : bar_sheet bytes id ≡ Err bar_too_long → (len : ℕ) × Bar l id len × (64 < len)
   long_gives e = go outcome
     where
       go : Outcome → (len : ℕ) × Bar l id len × (64 < len)
@@ -115,7 +114,7 @@ module _ (l : Lists) (fine : ListsFine l) (bytes : List ℕ) (w : Opened l bytes
       go (is_long len b far r) = (len, b, far)
       go (is_shown len b short r) = ok_refuse (sym r ∙ e)
 
-  no_other : (x : Refusal) → bar_sheet bytes id ≡ refuse x → (x ≡ unknown_bar) ⊎ (x ≡ bar_too_long)
+  no_other : (x : Refusal) → bar_sheet bytes id ≡ Err x → (x ≡ unknown_bar) ⊎ (x ≡ bar_too_long)
   no_other x e = go outcome
     where
       go : Outcome → (x ≡ unknown_bar) ⊎ (x ≡ bar_too_long)
@@ -127,7 +126,7 @@ module _ (l : Lists) (fine : ListsFine l) (bytes : List ℕ) (w : Opened l bytes
   paper : (len : ℕ) → Bar l id len → len ≤ 64 → OnPaper id len (given l).terms (sheet id len (given l).terms)
   paper len b short = shown_paper bytes id w.opens (bar_there len b) short w.decoded
 
-  shown_gives : (text : List ℕ) → bar_sheet bytes id ≡ ok text
+  shown_gives : (text : List ℕ) → bar_sheet bytes id ≡ Ok text
       → (len : ℕ) × Bar l id len × (len ≤ 64) × OnPaper id len (given l).terms text
   shown_gives text e = go outcome
     where
@@ -137,9 +136,9 @@ module _ (l : Lists) (fine : ListsFine l) (bytes : List ℕ) (w : Opened l bytes
       go (is_shown len b short r) = (len, b, short, subst (OnPaper id len (given l).terms) (ok_same (sym r ∙ e)) (paper len b short))
 
   shown_from : (text : List ℕ) → (len : ℕ) × Bar l id len × (len ≤ 64) × OnPaper id len (given l).terms text
-      → bar_sheet bytes id ≡ ok text
+      → bar_sheet bytes id ≡ Ok text
   shown_from text (len, b, short, p) =
-      sheet_shown len b short ∙ ap ok (one_sheet id len (given l).terms (sheet id len (given l).terms) text (paper len b short) p)
+      sheet_shown len b short ∙ ap Ok (one_sheet id len (given l).terms (sheet id len (given l).terms) text (paper len b short) p)
 
   shows : ShowsWhatWasHandedIn l bytes id
   shows = record {
@@ -156,7 +155,7 @@ sheet_of_what_was_written l room bytes typed e id =
     shows l (accepted_gives l room e).lists bytes (opened l bytes (reads_back l room bytes typed e).back) id
 
 -- of each bar handed in of at most 64 steps, the sheet computed is the bar on paper
-pub paper_of_what_was_written : (l : Lists) (room : ℕ) (bytes : List ℕ) → Typed l → write l room ≡ ok bytes
+pub paper_of_what_was_written : (l : Lists) (room : ℕ) (bytes : List ℕ) → Typed l → write l room ≡ Ok bytes
     → (id len : ℕ) → Bar l id len → len ≤ 64 → OnPaper id len (given l).terms (sheet id len (given l).terms)
 paper_of_what_was_written l room bytes typed e id len b short =
     paper l (accepted_gives l room e).lists bytes (opened l bytes (reads_back l room bytes typed e).back) id len b short

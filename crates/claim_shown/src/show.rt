@@ -2,20 +2,14 @@
 ghost use Rattle.calls.specs.Given.{given_lists};
 ghost use Rattle.claim_shown.specs.Promise.{WrittenThenShown};
 
+use claim_joint::ask::Asked;
 use segment::ids::DocId;
 use segment::refusal::Refusal;
-use segment::replies::{Counted, Written};
 use show_sheet::sheet::bar_sheet;
 use write_segment::write::write_positional_segment;
 
-// The writer's refusal, or how many bytes were written and what the sheet's call answered.
-#[derive(Clone, Copy)]
-pub enum Shown {
-    NotWritten(Refusal),
-    Answer(usize, Counted),
-}
-
-// Writes, then shows a bar on paper: bar_sheet is called on exactly the bytes written.
+// Writes, then shows a bar on paper: bar_sheet is called on exactly the bytes written. The writer's refusal, or the length written and
+// what the sheet's call answered.
 pub fn write_then_show(
     ids: &[u32],
     lengths: &[u32],
@@ -28,11 +22,11 @@ pub fn write_then_show(
     out: &mut [u8],
     id: DocId,
     sheet: &mut [u8],
-) -> Shown
+) -> Result<Asked, Refusal>
     ensures { WrittenThenShown (given_lists ids lengths text ends posting_counts posting_ids position_counts positions)
         out.old id.0 sheet.old result out.new sheet.new }
 {
-    match write_positional_segment(
+    let written = write_positional_segment(
         ids,
         lengths,
         text,
@@ -42,11 +36,7 @@ pub fn write_then_show(
         position_counts,
         positions,
         out,
-    ) {
-        Written::Length(n) => {
-            let answer = bar_sheet(&out[..n], id, sheet);
-            Shown::Answer(n, answer)
-        }
-        Written::Refused(x) => Shown::NotWritten(x),
-    }
+    )?;
+    let answer = bar_sheet(&out[..written], id, sheet);
+    Ok(Asked { written, answer })
 }

@@ -9,8 +9,6 @@ ghost use Rattle.std.specs.Prelude.{◌≡◌};
 ghost use Rattle.crc32.specs.Crc32.{crc32_of};
 ghost use Rattle.crc32.specs.Parts.{times_x, taken_in, complemented, BothTaken};
 
-use common::widths::byte;
-
 // G(x), the generating polynomial, without x^32; its bits as in d. By digits, each from its highest bit:
 //   E: 1, x, x^2   D: x^4, x^5, x^7   B: x^8, x^10, x^11   8: x^12   8: x^16   3: x^22, x^23   2: x^26   0: none
 const G: u32 = 0xEDB8_8320;
@@ -35,11 +33,9 @@ fn step(remainder: u32) -> u32
 fn update(prior: u32, next: u8) -> u32
     ensures { result ≡ taken_in prior next }
 {
-    let mut remainder = prior ^ byte(next);
-    let mut bit: u32 = 0;
-    while bit < 8 {
+    let mut remainder = prior ^ u32::from(next);
+    for _ in 0..8u32 {
         remainder = step(remainder);
-        bit += 1;
     }
     remainder
 }
@@ -49,10 +45,8 @@ pub fn crc32(s: &[u8]) -> u32
     ensures { result ≡ crc32_of s.now }
 {
     let mut remainder: u32 = 0xFFFF_FFFF;
-    let mut i = 0;
-    while i < s.len() {
-        remainder = update(remainder, s[i]);
-        i += 1;
+    for &next in s {
+        remainder = update(remainder, next);
     }
     remainder ^ 0xFFFF_FFFF
 }
@@ -70,16 +64,13 @@ pub fn crc32_and_on(s: &[u8], before: u32) -> Both
 {
     let mut own = START;
     let mut run = before;
-    let mut i = 0;
-    while i < s.len() {
-        let next = s[i];
+    for &next in s {
         own = update(own, next);
         run = update(run, next);
-        i += 1;
     }
     Both {
         own: finish(own),
-        run: run,
+        run,
     }
 }
 

@@ -1,5 +1,6 @@
 -- What a handle that is the bytes' own vouches for, by its level.
 -- Assumes nothing.
+use Rattle.std.specs.Prelude.{Err, Ok}
 use mathlib.Core.Path.{◌≡◌, refl, ap, ◌∙◌}
 use mathlib.Core.List.{List}
 use mathlib.Core.Logic.{inl, inr, ⊎_elim}
@@ -7,8 +8,7 @@ use Prim.Native.Nat.{ℕ, ◌≤◌, ◌<◌}
 use native.Mathlib.Omega.{arith}
 use Rattle.common.proofs.Loops.{lt_or_ge}
 use Rattle.segment.specs.declared.refusal.Refusal.{Refusal}
-use Rattle.segment.specs.declared.checked.Checked.TheVariants.{Passed, Refused}
-use Rattle.segment.specs.Results.{Result, ok, refuse}
+use Rattle.segment.specs.Results.{Answer}
 use Rattle.segment.specs.Records.{Segment}
 use Rattle.segment.specs.Opening.{open_segment}
 use Rattle.segment.specs.Steps.{checked}
@@ -16,7 +16,6 @@ use Rattle.segment.proofs.Accepted.{passed_ok, refused_is}
 use Rattle.calls.specs.Whole.{every_list, whole_segment}
 use Rattle.calls.proofs.Whole.{whole_gives}
 use Rattle.read_open.specs.declared.header.Layout.{Layout}
-use Rattle.read_open.specs.declared.header.Opening.TheVariants as opening
 use Rattle.read_open.specs.Layouts.{layout_in}
 use Rattle.read_open.specs.Opened.{Opens}
 use Rattle.read_open.proofs.Fitting.{own_fits}
@@ -27,7 +26,7 @@ use Rattle.handle.specs.Handles.{accepted, refused, handled, opened_once, checke
 -- ---- what the two calls answer, in the order of the code's tests
 
 module _ (bytes : List ℕ) where
-  module _ {x : Refusal} (shut : open_segment bytes ≡ refuse x) where
+  module _ {x : Refusal} (shut : open_segment bytes ≡ Err x) where
     pub open_refused : refused x ≡ opened_once bytes
     open_refused = rw shut
 
@@ -35,38 +34,38 @@ module _ (bytes : List ℕ) where
     unfolding whole_segment
     check_shut = rw shut
 
-  module _ {l : Layout} (opens : Opens bytes (opening.Layout l)) where
+  module _ {l : Layout} (opens : Opens bytes (Ok l)) where
     pub open_accepted : accepted 1 l ≡ opened_once bytes
     open_accepted = rw (opens.1, opens.2.numbers)
 
-    pub check_refused : {x : Refusal} → Refused x ≡ checked (every_list opens.0) → refused x ≡ checked_once bytes
+    pub check_refused : {x : Refusal} → Err x ≡ checked (every_list opens.0) → refused x ≡ checked_once bytes
     unfolding whole_segment
     check_refused e = rw (opens.1, refused_is (every_list opens.0) e)
 
-    pub check_accepted : Passed ≡ checked (every_list opens.0) → accepted 2 l ≡ checked_once bytes
+    pub check_accepted : Ok tt ≡ checked (every_list opens.0) → accepted 2 l ≡ checked_once bytes
     unfolding whole_segment
     check_accepted e = rw (opens.1, (passed_ok (every_list opens.0) e).1, opens.2.numbers)
 
 -- ---- what their answer vouches for
 
 -- above level 0 it was accepted
-above : (level : ℕ) (l : Layout) (r : Result Segment) → 1 ≤ (handled level l r).level → (s : Segment) × (r ≡ ok s)
-above level l (ok s) h = (s, refl)
-above level l (refuse x) h = absurd (omega arith)
+above : (level : ℕ) (l : Layout) (r : Answer Segment) → 1 ≤ (handled level l r).level → (s : Segment) × (r ≡ Ok s)
+above level l (Ok s) h = (s, refl)
+above level l (Err x) h = absurd (omega arith)
 
 -- at level 0 it was refused, for the calls' levels are not 0
-below : (level : ℕ) (l : Layout) (r : Result Segment) → 1 ≤ level → (handled level l r).level ≡ 0
+below : (level : ℕ) (l : Layout) (r : Answer Segment) → 1 ≤ level → (handled level l r).level ≡ 0
     → (x : Refusal) × (handled level l r ≡ refused x)
-below level l (ok s) h e = absurd (omega arith)
-below level l (refuse x) h e = (x, refl)
+below level l (Ok s) h e = absurd (omega arith)
+below level l (Err x) h e = (x, refl)
 
-highest : (level : ℕ) (l : Layout) (r : Result Segment) → level ≤ 2 → (handled level l r).level ≤ 2
-highest level l (ok s) h = h
-highest level l (refuse x) h = omega arith
+highest : (level : ℕ) (l : Layout) (r : Answer Segment) → level ≤ 2 → (handled level l r).level ≤ 2
+highest level l (Ok s) h = h
+highest level l (Err x) h = omega arith
 
 module _ (bytes : List ℕ) where
-  vouched : {s : Segment} {h : Handle} (level : ℕ) → h ≡ accepted level (layout_in bytes) → open_segment bytes ≡ ok s
-      → (level ≡ 2 → every_list s ≡ ok tt) → Vouches bytes h
+  vouched : {s : Segment} {h : Handle} (level : ℕ) → h ≡ accepted level (layout_in bytes) → open_segment bytes ≡ Ok s
+      → (level ≡ 2 → every_list s ≡ Ok tt) → Vouches bytes h
   vouched {s} level e o lists =
       rw e (record { segment = s; opens = o; is_open = own_layout bytes o; lists = lists })
 

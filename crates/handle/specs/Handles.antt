@@ -1,7 +1,8 @@
 -- Handles: the one that checking answers, and when a call uses the one that it is handed.
-use Rattle.std.specs.Prelude.{ℕ, ◌≤◌, ◌≡◌, List, ◌⊎◌}
+use Rattle.segment.specs.Refusals.{numbers}
+use Rattle.std.specs.Prelude.{Err, Ok, ℕ, ◌≤◌, ◌≡◌, List, ◌⊎◌}
 use Rattle.segment.specs.declared.refusal.Refusal.{Refusal}
-use Rattle.segment.specs.Results.{Result, ok, refuse}
+use Rattle.segment.specs.Results.{Answer}
 use Rattle.segment.specs.Records.{Segment}
 use Rattle.segment.specs.Opening.{open_segment}
 use Rattle.calls.specs.Whole.{every_list, whole_segment}
@@ -30,9 +31,9 @@ accepted level l = record {
 -- the refusal, at level 0
 abbrev pub refused : Refusal → Handle
 refused x = record {
-  kind = x.kind;
-  which = x.which;
-  index = x.index;
+  kind = (numbers x).kind;
+  which = (numbers x).which;
+  index = (numbers x).index;
   level = 0;
   documents = 0;
   terms = 0;
@@ -42,9 +43,9 @@ refused x = record {
   lists = 0;
 }
 
-abbrev pub handled : (level : ℕ) → Layout → Result Segment → Handle
-handled level l (ok s) = accepted level l
-handled level l (refuse x) = refused x
+abbrev pub handled : (level : ℕ) → Layout → Answer Segment → Handle
+handled level l (Ok s) = accepted level l
+handled level l (Err x) = refused x
 
 -- opened: level 1, or the refusal
 abbrev pub opened_once : List ℕ → Handle
@@ -78,6 +79,6 @@ pub record Usable (bytes : List ℕ) (h : Handle) : Type 0 where
 -- what a handle that is the bytes' own says, at level 1 and 2: they open, and its layout is the segment's; at level 2 every list decodes
 pub record Vouches (bytes : List ℕ) (h : Handle) : Type 0 where
   pub segment : Segment
-  pub opens : open_segment bytes ≡ ok segment
+  pub opens : open_segment bytes ≡ Ok segment
   pub is_open : IsOpen bytes (layout_of h) segment
-  pub lists : h.level ≡ 2 → every_list segment ≡ ok tt
+  pub lists : h.level ≡ 2 → every_list segment ≡ Ok tt

@@ -3,10 +3,10 @@ ghost use Rattle.std.specs.Prelude.{◌≡◌, true, ◌↔◌};
 ghost use Rattle.handle.specs.Handles.{accepted, refused, layout_of, Usable};
 
 use read_open::header::{Layout, fits};
-use segment::refusal::Refusal;
+use segment::refusal::{Numbers, Refusal};
 
 // A refusal, or the level: 1 where the segment was opened, 2 where every list was decoded too. Then the layout. Of a refusal all after
-// its three numbers are 0; of a layout the three are.
+// its three numbers are 0; of a layout the three are. It is handed to callers in C, so it is these fields and no enum.
 #[repr(C)]
 #[derive(Clone, Copy)]
 pub struct Handle {
@@ -30,7 +30,7 @@ pub fn accepted(level: u32, at: Layout) -> Handle
         kind: 0,
         which: 0,
         index: 0,
-        level: level,
+        level,
         documents: at.documents,
         terms: at.terms,
         spare: 0,
@@ -44,10 +44,11 @@ pub fn accepted(level: u32, at: Layout) -> Handle
 pub fn refused(x: Refusal) -> Handle
     ensures { result ≡ refused x }
 {
+    let Numbers { kind, which, index } = x.numbers();
     Handle {
-        kind: x.kind,
-        which: x.which,
-        index: x.index,
+        kind,
+        which,
+        index,
         level: 0,
         documents: 0,
         terms: 0,
@@ -75,11 +76,5 @@ pub fn layout_of(h: Handle) -> Layout
 pub fn usable(bytes: &[u8], h: Handle) -> bool
     ensures { (result ≡ true) ↔ Usable bytes.now h }
 {
-    if h.level == 0 {
-        return false;
-    }
-    if 2 < h.level {
-        return false;
-    }
-    fits(bytes, layout_of(h))
+    (1..=2).contains(&h.level) && fits(bytes, layout_of(h))
 }

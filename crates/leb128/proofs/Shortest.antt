@@ -1,9 +1,9 @@
 -- The bytes written for a number: a byte at a time, read back, and no form is shorter.
 -- Assumes nothing.
+use Rattle.std.specs.Prelude.{None, Option, Some}
 use mathlib.Core.Path.{◌≡◌, refl, sym, ap, ◌∙◌}
 use mathlib.Core.List.{List, [], ◌∷◌, ◌++◌}
 use mathlib.Core.Bool.{Bool, true, false, cond, ◌&&◌}
-use mathlib.Core.Option.{Option, none, some}
 use mathlib.Core.Logic.{⊎_elim, ◌⊎◌, inl, inr, ◌↔◌}
 use Prim.Native.Nat.{ℕ, zero, suc, ◌+◌, ◌*◌, ◌/◌, ◌%◌, ◌^◌, ◌≤◌, ◌<◌}
 use native.Mathlib.Nat.{pow-suc}
@@ -12,7 +12,6 @@ use lib.Dec.{ltb, leb}
 use lib.ListN.{length, get_or}
 use lib.Seq.{drop-append_seam}
 use borrow.Author.Tests.{lt-ltb, le-ltb, le-leb, leb-true, ltb-true}
-use Rattle.leb128.specs.declared.varint.Decoded.TheVariants.{Value}
 use Rattle.leb128.specs.Leb128.{Leb, below, uleb128, limited, chunks, encoded}
 use Rattle.leb128.specs.Promise.{decoded_at}
 use Rattle.leb128.specs.Claims as claims
@@ -35,7 +34,7 @@ unfolding encoded chunks
 more_bytes x h k = rw (le-ltb x 128 h) (ap (λ l. (x % 128 + 128) ∷ l) (fewer 3 (x / 128) (omega arith)))
 
 -- read back, whatever follows
-back : (n x : ℕ) (rest : List ℕ) → x < 128 ^ suc n → uleb128 (chunks n x ++ rest) ≡ some (claims.leb_number x (length (chunks n x)))
+back : (n x : ℕ) (rest : List ℕ) → x < 128 ^ suc n → uleb128 (chunks n x ++ rest) ≡ Some (claims.leb_number x (length (chunks n x)))
 unfolding chunks uleb128
 back zero x rest h = rw (lt-ltb x 128 h)
 back (suc n) x rest h =
@@ -47,7 +46,7 @@ back (suc n) x rest h =
       le-ltb (x % 128 + 128) 128 (omega arith),
       back n (x / 128) rest (omega (arith, rw (pow-suc 128 (suc n)) at h)),
     )
-    (ap {B = Option Leb} (λ (v : ℕ). some (claims.leb_number v (suc (length (chunks n (x / 128)))))) (omega arith)))
+    (ap {B = Option Leb} (λ (v : ℕ). Some (claims.leb_number v (suc (length (chunks n (x / 128)))))) (omega arith)))
     (lt_or_ge x 128)
 
 -- one byte at least, as many as there are chunks at most, each of eight bits
@@ -83,17 +82,17 @@ chunk_bits (suc n) x h i =
     two (suc i) ih = ih i
 
 abbrev value_of : Option Leb → ℕ
-value_of none = 0
-value_of (some r) = r.value
+value_of None = 0
+value_of (Some r) = r.value
 
 abbrev size_of : Option Leb → ℕ
-size_of none = 0
-size_of (some r) = r.size
+size_of None = 0
+size_of (Some r) = r.size
 
 -- a form of k bytes says less than 128 ^ k, so it has at least as many bytes as the chunks
 found_size : (b : ℕ) (o : Option Leb) (t : Bool) (v k n : ℕ) → ltb b 128 ≡ t → 128 ^ n ≤ v → 1 ≤ k
-    → cond t (some (claims.leb_number b 1)) (below b o) ≡ some (claims.leb_number v k)
-    → ((w j m : ℕ) → n ≡ suc m → v / 128 ≡ w → o ≡ some (claims.leb_number w j) → k ≡ suc j → m < j) → n < k
+    → cond t (Some (claims.leb_number b 1)) (below b o) ≡ Some (claims.leb_number v k)
+    → ((w j m : ℕ) → n ≡ suc m → v / 128 ≡ w → o ≡ Some (claims.leb_number w j) → k ≡ suc j → m < j) → n < k
 found_size b o true v k zero e h p f ih = p
 found_size b o true v k (suc n) e h p f ih =
     let f1 : b ≡ v = ap value_of f in
@@ -102,14 +101,14 @@ found_size b o true v k (suc n) e h p f ih =
     one_le : (n : ℕ) → 1 ≤ 128 ^ n
     one_le zero = omega arith
     one_le (suc n) = rw (pow-suc 128 n) (omega (arith, one_le n))
-found_size b none false v k n e h p f ih = let z : ◌≡◌ {A = ℕ} 0 1 = cc in absurd (omega arith)
-found_size b (some q) false v k zero e h p f ih = p
-found_size b (some q) false v k (suc n) e h p f ih =
+found_size b None false v k n e h p f ih = let z : ◌≡◌ {A = ℕ} 0 1 = cc in absurd (omega arith)
+found_size b (Some q) false v k zero e h p f ih = p
+found_size b (Some q) false v k (suc n) e h p f ih =
     let f1 : b % 128 + 128 * q.value ≡ v = ap value_of f in
     let f2 : suc q.size ≡ k = ap size_of f in
     omega (arith, ih q.value q.size n refl (omega arith) refl (sym f2))
 
-more_than : (l : List ℕ) (v k n : ℕ) → 128 ^ n ≤ v → uleb128 l ≡ some (claims.leb_number v k) → n < k
+more_than : (l : List ℕ) (v k n : ℕ) → 128 ^ n ≤ v → uleb128 l ≡ Some (claims.leb_number v k) → n < k
 unfolding uleb128
 more_than [] v k n h e = let z : ◌≡◌ {A = ℕ} 0 1 = cc in absurd (omega arith)
 more_than (b ∷ l) v k n h e =
@@ -131,7 +130,7 @@ filled (suc n) x =
     next (inl is) y = (0, ap suc is, omega (arith, pow-suc 128 0))
     next (inr (j, is, big)) y = (suc j, ap suc is, omega (arith, pow-suc 128 (suc j)))
 
-least_chunks : (n x : ℕ) (l : List ℕ) (k : ℕ) → x < 128 ^ suc n → uleb128 l ≡ some (claims.leb_number x k) → length (chunks n x) ≤ k
+least_chunks : (n x : ℕ) (l : List ℕ) (k : ℕ) → x < 128 ^ suc n → uleb128 l ≡ Some (claims.leb_number x k) → length (chunks n x) ≤ k
 least_chunks n x l k h e = go (length (chunks n x)) (filled n x)
   where
     go : (m : ℕ) → ((m ≡ 1) ⊎ ((j : ℕ) × (m ≡ suc (suc j)) × (128 ^ suc j ≤ x))) → m ≤ k
@@ -151,13 +150,13 @@ written_shortest x h = record {
 pub read_back : claims.ReadBack
 read_back x rest h = rw ((written_shortest x h).back rest, le-leb (length (encoded x)) 5 (encoded_size x), lt-ltb x (2 ^ 32) h)
 
-accepted : (o : Option Leb) (v k : ℕ) → (limited o ≡ some (claims.leb_number v k))
-    ↔ ((o ≡ some (claims.leb_number v k)) × (k ≤ 5) × (v < 2 ^ 32))
-accepted none v k = (λ e. let z : ◌≡◌ {A = ℕ} 0 1 = cc in absurd (omega arith), λ p. p.0)
-accepted (some r) v k = (to (leb r.size 5 && ltb r.value (2 ^ 32)) refl, from)
+accepted : (o : Option Leb) (v k : ℕ) → (limited o ≡ Some (claims.leb_number v k))
+    ↔ ((o ≡ Some (claims.leb_number v k)) × (k ≤ 5) × (v < 2 ^ 32))
+accepted None v k = (λ e. let z : ◌≡◌ {A = ℕ} 0 1 = cc in absurd (omega arith), λ p. p.0)
+accepted (Some r) v k = (to (leb r.size 5 && ltb r.value (2 ^ 32)) refl, from)
   where
-    to : (t : Bool) → leb r.size 5 && ltb r.value (2 ^ 32) ≡ t → cond t (some r) none ≡ some (claims.leb_number v k)
-        → (some r ≡ some (claims.leb_number v k)) × (k ≤ 5) × (v < 2 ^ 32)
+    to : (t : Bool) → leb r.size 5 && ltb r.value (2 ^ 32) ≡ t → cond t (Some r) None ≡ Some (claims.leb_number v k)
+        → (Some r ≡ Some (claims.leb_number v k)) × (k ≤ 5) × (v < 2 ^ 32)
     to true e f =
         let is1 : r.value ≡ v = ap value_of f in
         let is2 : r.size ≡ k = ap size_of f in (
@@ -167,7 +166,7 @@ accepted (some r) v k = (to (leb r.size 5 && ltb r.value (2 ^ 32)) refl, from)
         )
     to false e f = let z : ◌≡◌ {A = ℕ} 0 1 = cc in absurd (omega arith)
 
-    from : (some r ≡ some (claims.leb_number v k)) × (k ≤ 5) × (v < 2 ^ 32) → limited (some r) ≡ some (claims.leb_number v k)
+    from : (Some r ≡ Some (claims.leb_number v k)) × (k ≤ 5) × (v < 2 ^ 32) → limited (Some r) ≡ Some (claims.leb_number v k)
     from (f, g, h) = ap limited f ∙ rw (le-leb k 5 g, lt-ltb v (2 ^ 32) h)
 
 pub accepted_exactly : claims.AcceptedExactly
@@ -176,7 +175,7 @@ accepted_exactly bytes v k = accepted (uleb128 bytes) v k
 -- the number that was stored after p is read there, and the reader is past it
 pub stored_after : (p : List ℕ) (x : ℕ) (rest : List ℕ) → x < 2 ^ 32
     → decoded_at (p ++ (encoded x ++ rest)) (length p)
-    ≡ Value (record { value = x; next = record { at = length p + length (encoded x) } })
+    ≡ Some (record { value = x; next = record { at = length p + length (encoded x) } })
 stored_after p x rest h =
     sym (value (length p) _ x (length (encoded x)) x _
     (ap uleb128 (drop-append_seam p (encoded x ++ rest)) ∙ (written_shortest x h).back rest) (encoded_size x) h refl refl)

@@ -1,6 +1,5 @@
 -- Unsigned LEB128 (DWARF 5, section 7.6): seven bits to a byte, the low ones first, and the high bit set on every byte but the last.
-use Rattle.std.specs.Prelude.{ℕ, zero, suc, ◌+◌, ◌*◌, ◌/◌, ◌%◌, ◌^◌, List, [], ◌∷◌, cond, ◌&&◌, ltb, leb}
-use Rattle.std.proofs.Math.Option.{Option, none, some}
+use Rattle.std.specs.Prelude.{ℕ, zero, suc, ◌+◌, ◌*◌, ◌/◌, ◌%◌, ◌^◌, List, [], ◌∷◌, cond, ◌&&◌, ltb, leb, None, Option, Some}
 
 -- A number at the front of a list of bytes: its value, and how many bytes it takes
 pub record Leb : Type 0 where
@@ -9,18 +8,18 @@ pub record Leb : Type 0 where
 
 -- The low seven bits of a byte, below what the bytes after it say
 abbrev pub below : ℕ → Option Leb → Option Leb
-below b none = none
-below b (some r) = some (record { value = b % 128 + 128 * r.value; size = suc r.size })
+below b None = None
+below b (Some r) = Some (record { value = b % 128 + 128 * r.value; size = suc r.size })
 
 -- DWARF's decoder, with no limit on the length: the first byte below 128 is the last; none where the bytes run out before it
 unfoldable pub uleb128 : List ℕ → Option Leb
-uleb128 [] = none
-uleb128 (b ∷ bs) = let more = below b (uleb128 bs) in cond (ltb b 128) (some (record { value = b; size = 1 })) more
+uleb128 [] = None
+uleb128 (b ∷ bs) = let more = below b (uleb128 bs) in cond (ltb b 128) (Some (record { value = b; size = 1 })) more
 
 -- Document 01's stored number: 1 to 5 bytes of unsigned LEB128 that say a number of 32 bits
 abbrev pub limited : Option Leb → Option Leb
-limited none = none
-limited (some r) = cond (leb r.size 5 && ltb r.value (2 ^ 32)) (some r) none
+limited None = None
+limited (Some r) = cond (leb r.size 5 && ltb r.value (2 ^ 32)) (Some r) None
 
 abbrev pub stored : List ℕ → Option Leb
 stored bs = limited (uleb128 bs)

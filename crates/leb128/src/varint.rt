@@ -1,11 +1,8 @@
 // Stored numbers: unsigned LEB128 (DWARF 5, section 7.6) of one to five bytes, for values of 32 bits.
-ghost use Rattle.std.specs.Prelude.{◌≡◌, ◌+◌, ◌≤◌, length, drop};
+ghost use Rattle.std.specs.Prelude.{◌≡◌, ◌+◌, ◌≤◌, length, drop, Some};
 ghost use Rattle.common.specs.Stores.{Stored};
-ghost use Rattle.leb128.specs.declared.varint.Decoded.TheVariants.{Value};
 ghost use Rattle.leb128.specs.Leb128.{below, uleb128, limited, encoded};
 ghost use Rattle.leb128.specs.Promise.{decoded, decoded_at};
-
-use common::widths::byte;
 
 // An offset in a slice of bytes, where the next number starts.
 #[derive(Clone, Copy)]
@@ -20,75 +17,53 @@ pub struct Number {
     pub next: Reader,
 }
 
-// What a reader finds: a number, or no number that document 01 accepts.
-#[derive(Clone, Copy)]
-pub enum Decoded {
-    Value(Number),
-    Refused,
-}
-
 // The number that was read, and the reader at the offset past it.
-fn found(value: u32, at: usize) -> Decoded
-    ensures { result ≡ Value (record { value = value; next = record { at = at } }) }
+fn found(value: u32, at: usize) -> Option<Number>
+    ensures { result ≡ Some (record { value = value; next = record { at = at } }) }
 {
-    Decoded::Value(Number {
-        value: value,
-        next: Reader { at: at },
+    Some(Number {
+        value,
+        next: Reader { at },
     })
 }
 
 // A number at an offset, whose first two bytes, b0 and b1, say that more follow: three to five bytes, below 2^32.
-fn decode_long(s: &[u8], at: usize, b0: u32, b1: u32) -> Decoded
+fn decode_long(s: &[u8], at: usize, b0: u32, b1: u32) -> Option<Number>
     requires { at + 2 ≤ length s.now }
     ensures { result ≡ decoded at (limited (below b0 (below b1 (uleb128 (drop (at + 2) s.now))))) }
 {
     let at2 = at + 2;
-    if s.len() <= at2 {
-        return Decoded::Refused;
-    }
-    let b2 = byte(s[at2]);
+    let b2 = u32::from(*s.get(at2)?);
     let at3 = at2 + 1;
     let x2 = b0 % 128 + b1 % 128 * 128 + b2 % 128 * 16384;
     if b2 < 128 {
         return found(x2, at3);
     }
-    if s.len() <= at3 {
-        return Decoded::Refused;
-    }
-    let b3 = byte(s[at3]);
+    let b3 = u32::from(*s.get(at3)?);
     let at4 = at3 + 1;
     let x3 = x2 + b3 % 128 * 2097152;
     if b3 < 128 {
         return found(x3, at4);
     }
-    if s.len() <= at4 {
-        return Decoded::Refused;
-    }
-    let b4 = byte(s[at4]);
+    let b4 = u32::from(*s.get(at4)?);
     if 16 <= b4 {
-        return Decoded::Refused;
+        return None;
     }
     found(x3 + b4 * 268435456, at4 + 1)
 }
 
 impl Reader {
     // The number at the reader's offset: one to five bytes, below 2^32; long forms of small numbers included.
-    pub fn decode_u32(self, s: &[u8]) -> Decoded
+    pub fn decode_u32(self, s: &[u8]) -> Option<Number>
         ensures { result ≡ decoded_at s.now self.at }
     {
         let at = self.at;
-        if s.len() <= at {
-            return Decoded::Refused;
-        }
-        let b0 = byte(s[at]);
+        let b0 = u32::from(*s.get(at)?);
         let at1 = at + 1;
         if b0 < 128 {
             return found(b0, at1);
         }
-        if s.len() <= at1 {
-            return Decoded::Refused;
-        }
-        let b1 = byte(s[at1]);
+        let b1 = u32::from(*s.get(at1)?);
         if b1 < 128 {
             return found(b0 % 128 + b1 * 128, at1 + 1);
         }
@@ -97,6 +72,7 @@ impl Reader {
 }
 
 // How many bytes the shortest form of x has.
+#[tactic(auto, unfolding(crate::specs::Leb128::encoded, crate::specs::Leb128::chunks))]
 pub fn encoded_len(x: u32) -> usize
     ensures { result ≡ length (encoded x) }
 {
@@ -123,9 +99,10 @@ pub fn encode_u32(x: u32, out: &mut [u8], at: usize) -> usize
 {
     let mut rest = x;
     let mut i = at;
+    // How often it turns is the value's to say, and no count or slice, so this is no `for`.
     while 128 <= rest {
         out[i] = (rest % 128 + 128) as u8;
-        rest = rest / 128;
+        rest /= 128;
         i += 1;
     }
     out[i] = rest as u8;

@@ -1,10 +1,9 @@
 -- What the lookup over a caller's lists answers, in the words of document 02, wish 8.
-use Rattle.std.specs.Prelude.{ℕ, suc, ◌≤◌, ◌<◌, ◌≡◌, List, ◌⊎◌, length, get_or}
+use Rattle.std.specs.Prelude.{Err, None, Ok, Option, Some, ℕ, suc, ◌≤◌, ◌<◌, ◌≡◌, List, ◌⊎◌, length, get_or}
+use Rattle.segment.specs.Results.{Answer}
 use Rattle.common.specs.Elements.{◌∈◌, Rising}
 use Rattle.segment.specs.Refusals.{too_large, list_shape, ids_not_rising}
 use Rattle.segment.specs.declared.refusal.Refusal.{Refusal}
-use Rattle.segment.specs.declared.replies.Length.{Length}
-use Rattle.segment.specs.declared.replies.Length.TheVariants as len
 
 -- ---- the lists
 
@@ -45,7 +44,7 @@ RefusedFor ids lengths x =
 abbrev pub RisingLists : (ids lengths : List ℕ) → Type 0
 RisingLists ids lengths = SideBySide ids lengths × Rising ids
 
-abbrev pub Answers : (ids lengths : List ℕ) (id : ℕ) → Length → Type 0
-Answers ids lengths id (len.Known n) = RisingLists ids lengths × Beside ids lengths id n
-Answers ids lengths id len.Absent = RisingLists ids lengths × (id ∈ ids → ⊥)
-Answers ids lengths id (len.Refused x) = RefusedFor ids lengths x
+abbrev pub Answers : (ids lengths : List ℕ) (id : ℕ) → Answer (Option ℕ) → Type 0
+Answers ids lengths id ((Ok (Some n))) = RisingLists ids lengths × Beside ids lengths id n
+Answers ids lengths id (Ok None) = RisingLists ids lengths × (id ∈ ids → ⊥)
+Answers ids lengths id (Err x) = RefusedFor ids lengths x

@@ -12,7 +12,7 @@ fn list_file(rt: &HostRuntime, file: &mut File) -> io::Result<()> {
     let mut segment = [0u8; 65537];
     let n = read_full(file, &mut segment)?;
     let mut text = [0u8; 4096];
-    write_listing(&mut rt.stdout(), &segment[..n], &mut text)?;
+    let _ = write_listing(&mut rt.stdout(), &segment[..n], &mut text)?;
     Ok(())
 }
 

@@ -1,5 +1,6 @@
 -- The velocities: one beside each position, that of the loudest hit there.
 -- Assumes nothing.
+use Rattle.std.specs.Prelude.{Err, Ok}
 use mathlib.Core.Path.{◌≡◌, refl, sym, ap, subst, ◌∙◌}
 use mathlib.Core.Bool.{Bool, true, false, cond}
 use mathlib.Core.List.{List, [], ◌∷◌, map, map-map, map-id}
@@ -16,13 +17,12 @@ use Rattle.common.proofs.Elements.{map_from}
 use Rattle.common.proofs.Membership.{kept_gives, kept_from, map_gives, at_place}
 use Rattle.common.proofs.Kept.{map_same}
 use Rattle.segment.specs.Records.{Given, Term, Posting}
-use Rattle.segment.specs.Results.{Result, ok, refuse, ◌>>=◌}
+use Rattle.segment.specs.Results.{Answer, ◌>>=◌}
 use Rattle.segment.proofs.Binds.{bind_gives, ok_same, refuse_ok}
 use Rattle.calls.specs.Given.{Lists, given, laid_flat}
 use Rattle.midi_read.specs.declared.track.Hit.{Hit}
 use Rattle.midi_read.specs.Files.{Grid, grid, step_of, chunks, hits}
-use Rattle.midi_bars.specs.Bars.{greater, name_of, on_position, sounds_of, bars_of, positions_of, posting_of, term_of}
-use Rattle.midi_bars.specs.Bars.{given_of, lists_of}
+use Rattle.midi_bars.specs.Bars.{greater, name_of, on_position, sounds_of, bars_of, positions_of, posting_of, term_of, given_of, lists_of}
 use Rattle.midi_bars.specs.Loudness.{greatest, AllLists, loudest, velocities_of, all_of}
 use Rattle.midi_bars.specs.Imports.{import_file, import_all}
 use Rattle.midi_bars.specs.Words.{division}
@@ -221,28 +221,28 @@ pub lists_stayed : ListsStayed
 unfolding import_all import_file
 lists_stayed steps quarter file = step (chunks steps quarter file)
   where
-    after : (g : Grid) (r : Result (List Hit)) → for_the_writer (r >>= (λ hs. ok (all_of g hs))) ≡ (r >>= (λ hs. ok (lists_of g hs)))
-    after g (ok hs) = refl
-    after g (refuse x) = refl
+    after : (g : Grid) (r : Answer (List Hit)) → for_the_writer (r >>= (λ hs. Ok (all_of g hs))) ≡ (r >>= (λ hs. Ok (lists_of g hs)))
+    after g (Ok hs) = refl
+    after g (Err x) = refl
 
-    step : (r : Result Grid)
-        → for_the_writer (r >>= (λ g. hits g file >>= (λ hs. ok (all_of g hs)))) ≡ (r >>= (λ g. hits g file >>= (λ hs. ok (lists_of g hs))))
-    step (ok g) = after g (hits g file)
-    step (refuse x) = refl
+    step : (r : Answer Grid)
+        → for_the_writer (r >>= (λ g. hits g file >>= (λ hs. Ok (all_of g hs)))) ≡ (r >>= (λ g. hits g file >>= (λ hs. Ok (lists_of g hs))))
+    step (Ok g) = after g (hits g file)
+    step (Err x) = refl
 
 -- read with the velocities, and without
 module _ (steps quarter : ℕ) (file : List ℕ) where
-  pub without : (a : AllLists) → import_all steps quarter file ≡ ok a → import_file steps quarter file ≡ ok a.lists
+  pub without : (a : AllLists) → import_all steps quarter file ≡ Ok a → import_file steps quarter file ≡ Ok a.lists
   without a e = sym (lists_stayed steps quarter file) ∙ ap for_the_writer e
 
-  pub with_all : (l : Lists) → import_file steps quarter file ≡ ok l → (a : AllLists) × (import_all steps quarter file ≡ ok a)
+  pub with_all : (l : Lists) → import_file steps quarter file ≡ Ok l → (a : AllLists) × (import_all steps quarter file ≡ Ok a)
   with_all l e = step (import_all steps quarter file) (lists_stayed steps quarter file ∙ e)
     where
-      step : (r : Result AllLists) → for_the_writer r ≡ ok l → (a : AllLists) × (r ≡ ok a)
-      step (ok a) e = (a, refl)
-      step (refuse x) e = refuse_ok e
+      step : (r : Answer AllLists) → for_the_writer r ≡ Ok l → (a : AllLists) × (r ≡ Ok a)
+      step (Ok a) e = (a, refl)
+      step (Err x) e = refuse_ok e
 
-held_by : (steps quarter : ℕ) (file : List ℕ) (g : Grid) (hs : List Hit) → chunks steps quarter file ≡ ok g → hits g file ≡ ok hs
+held_by : (steps quarter : ℕ) (file : List ℕ) (g : Grid) (hs : List Hit) → chunks steps quarter file ≡ Ok g → hits g file ≡ Ok hs
     → 1 ≤ steps → HoldsLoudness steps quarter file hs (all_of g hs)
 held_by steps quarter file g hs c h one =
     let so = grid_is steps quarter file g c in

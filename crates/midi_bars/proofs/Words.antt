@@ -1,5 +1,6 @@
 -- The lists of a file hold what the file plays, in the customer's words.
 -- Assumes nothing.
+use Rattle.std.specs.Prelude.{Ok}
 use mathlib.Core.Path.{◌≡◌, refl, sym, ap, subst, ◌∙◌}
 use mathlib.Core.Bool.{true, ◌&&◌}
 use mathlib.Core.List.{List, map}
@@ -16,7 +17,6 @@ use Rattle.common.specs.Elements.{◌∈◌, Rising}
 use Rattle.segment.specs.Records.{Document}
 use Rattle.segment.specs.Metadata.{document}
 use Rattle.segment.specs.Refusals.{too_large, midi_file}
-use Rattle.segment.specs.Results.{ok}
 use Rattle.segment.specs.Names.{same}
 use Rattle.segment.proofs.Binds.{bind_gives, ok_same}
 use Rattle.segment.proofs.Accepted.{check_gives}
@@ -28,8 +28,7 @@ use Rattle.midi_read.specs.Files.{Grid, grid, step_of, bar_of, position_of, divi
 use Rattle.midi_bars.specs.Bars.{rising_from, name_of, bar_count, sounds_of, term_of, given_of, lists_of}
 use Rattle.midi_bars.specs.Imports.{import_file}
 use Rattle.midi_bars.specs.Words.{division, Plays}
-use Rattle.midi_bars.specs.Claims.{HitsFine, Struck, Listed, UpToAHit, HoldsFile, ReadExactly, FileHeld, ImportAccepted}
-use Rattle.midi_bars.specs.Claims.{DivisionExactly}
+use Rattle.midi_bars.specs.Claims.{HitsFine, Struck, Listed, UpToAHit, HoldsFile, ReadExactly, FileHeld, ImportAccepted, DivisionExactly}
 use Rattle.calls.proofs.Shaped.{ends_count}
 use Rattle.midi_bars.proofs.Named.{name_one}
 use Rattle.midi_bars.proofs.Struck.{hits_held, stands_for}
@@ -50,7 +49,7 @@ parted s x b p l e =
 
 -- ---- the header's grid
 
-ticks_are : (quarter : ℕ) (file : List ℕ) (ticks : ℕ) → header quarter file ≡ ok ticks → ticks ≡ division file / quarter
+ticks_are : (quarter : ℕ) (file : List ℕ) (ticks : ℕ) → header quarter file ≡ Ok ticks → ticks ≡ division file / quarter
 unfolding header
 ticks_are quarter file ticks f =
     let (_, f₁) = check_gives (leb 14 (length file)) (midi_file 0) _ f in
@@ -58,7 +57,7 @@ ticks_are quarter file ticks f =
     let (_, f₃) = check_gives (division_fits quarter (division file)) (midi_file 0) _ f₂ in
     sym (ok_same f₃)
 
-pub grid_is : (steps quarter : ℕ) (file : List ℕ) (g : Grid) → chunks steps quarter file ≡ ok g → g ≡ grid (division file / quarter) steps
+pub grid_is : (steps quarter : ℕ) (file : List ℕ) (g : Grid) → chunks steps quarter file ≡ Ok g → g ≡ grid (division file / quarter) steps
 unfolding chunks
 grid_is steps quarter file g f =
     let (_, f₁) = check_gives (leb (length file) 16777216) too_large _ f in
@@ -154,17 +153,17 @@ module _ (steps quarter : ℕ) (file : List ℕ) (hs : List Hit) where
 
 -- ---- a file that is read
 
-module _ (steps quarter : ℕ) (file : List ℕ) (l : Lists) (read : import_file steps quarter file ≡ ok l) where
+module _ (steps quarter : ℕ) (file : List ℕ) (l : Lists) (read : import_file steps quarter file ≡ Ok l) where
   -- its hits, and the lists made of them
-  came_from : (g : Grid) × (hs : List Hit) × (chunks steps quarter file ≡ ok g) × (hits g file ≡ ok hs) × (lists_of g hs ≡ l)
+  came_from : (g : Grid) × (hs : List Hit) × (chunks steps quarter file ≡ Ok g) × (hits g file ≡ Ok hs) × (lists_of g hs ≡ l)
   unfolding import_file
   came_from =
       let (g, c, f) = bind_gives (chunks steps quarter file) _ read in
       let (hs, h, f₁) = bind_gives (hits g file) _ f in
       (g, hs, c, h, ok_same f₁)
 
-module _ (steps quarter : ℕ) (file : List ℕ) (g : Grid) (hs : List Hit) (c : chunks steps quarter file ≡ ok g)
-    (h : hits g file ≡ ok hs) where
+module _ (steps quarter : ℕ) (file : List ℕ) (g : Grid) (hs : List Hit) (c : chunks steps quarter file ≡ Ok g)
+    (h : hits g file ≡ Ok hs) where
   held_by : (l : Lists) → lists_of g hs ≡ l → 1 ≤ steps → HoldsFile steps quarter file hs l
   held_by l is one =
       let so = grid_is steps quarter file g c in
@@ -179,18 +178,18 @@ file_held steps quarter file l one read =
     let (g, hs, c, h, is) = came_from steps quarter file l read in
     (hs, their_hits steps quarter file g hs c h, held_by steps quarter file g hs c h l is one)
 
-read_so : (steps quarter : ℕ) (file : List ℕ) (g : Grid) (hs : List Hit) → chunks steps quarter file ≡ ok g → hits g file ≡ ok hs
-    → import_file steps quarter file ≡ ok (lists_of g hs)
+read_so : (steps quarter : ℕ) (file : List ℕ) (g : Grid) (hs : List Hit) → chunks steps quarter file ≡ Ok g → hits g file ≡ Ok hs
+    → import_file steps quarter file ≡ Ok (lists_of g hs)
 unfolding import_file
 read_so steps quarter file g hs c h = rw (c, h)
 
 pub read_exactly : ReadExactly
 read_exactly steps quarter file = (to, from)
   where
-    to : (l : Lists) × (import_file steps quarter file ≡ ok l) → (hs : List Hit) × WithinRules steps quarter file hs
+    to : (l : Lists) × (import_file steps quarter file ≡ Ok l) → (hs : List Hit) × WithinRules steps quarter file hs
     to (l, read) = let (g, hs, c, h, _) = came_from steps quarter file l read in (hs, their_hits steps quarter file g hs c h)
 
-    from : (hs : List Hit) × WithinRules steps quarter file hs → (l : Lists) × (import_file steps quarter file ≡ ok l)
+    from : (hs : List Hit) × WithinRules steps quarter file hs → (l : Lists) × (import_file steps quarter file ≡ Ok l)
     from (hs, w) =
         let (g, c, h) = bind_gives (chunks steps quarter file) (λ g. hits g file) ((files_exactly steps quarter file hs).1 w) in
         (lists_of g hs, read_so steps quarter file g hs c h)
@@ -213,7 +212,7 @@ text_length g hs =
       length-map (sounds_of g hs) (term_of g hs),
     )
 
-pub import_text : (steps quarter : ℕ) (file : List ℕ) (l : Lists) → import_file steps quarter file ≡ ok l
+pub import_text : (steps quarter : ℕ) (file : List ℕ) (l : Lists) → import_file steps quarter file ≡ Ok l
     → length l.text ≡ 4 * length l.ends
 import_text steps quarter file l read =
     let (g, hs, _, _, is) = came_from steps quarter file l read in

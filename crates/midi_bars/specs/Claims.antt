@@ -1,7 +1,6 @@
 -- What is claimed of the lists; proved in proofs/.
-use Rattle.std.specs.Prelude.{ℕ, ◌+◌, ◌*◌, ◌%◌, ◌≤◌, ◌<◌, ◌≡◌, true, List, map, ◌↔◌, length}
+use Rattle.std.specs.Prelude.{Ok, ℕ, ◌+◌, ◌*◌, ◌%◌, ◌≤◌, ◌<◌, ◌≡◌, true, List, map, ◌↔◌, length}
 use Rattle.common.specs.Elements.{◌∈◌, Rising}
-use Rattle.segment.specs.Results.{ok}
 use Rattle.segment.specs.Records.{Given, Term, Posting}
 use Rattle.calls.specs.Given.{Lists, given}
 use Rattle.calls.specs.Acceptance.{ListsFine}
@@ -23,7 +22,7 @@ pub record HitsFine (g : Grid) (hs : List Hit) : Type 0 where
 -- every file that is read has such hits
 abbrev pub ReadFine : Type 0
 ReadFine =
-    (steps quarter : ℕ) (file : List ℕ) (g : Grid) (hs : List Hit) → 1 ≤ steps → chunks steps quarter file ≡ ok g → hits g file ≡ ok hs
+    (steps quarter : ℕ) (file : List ℕ) (g : Grid) (hs : List Hit) → 1 ≤ steps → chunks steps quarter file ≡ Ok g → hits g file ≡ Ok hs
     → HitsFine g hs
 
 -- the flat lists stand for the nested ones
@@ -93,17 +92,17 @@ pub record HoldsFile (steps quarter : ℕ) (file : List ℕ) (hs : List Hit) (l 
 abbrev pub ReadExactly : Type 0
 ReadExactly =
     (steps quarter : ℕ) (file : List ℕ)
-    → ((l : Lists) × (import_file steps quarter file ≡ ok l)) ↔ ((hs : List Hit) × WithinRules steps quarter file hs)
+    → ((l : Lists) × (import_file steps quarter file ≡ Ok l)) ↔ ((hs : List Hit) × WithinRules steps quarter file hs)
 
 -- of every file that is read, whatever the two numbers
 abbrev pub FileHeld : Type 0
 FileHeld =
-    (steps quarter : ℕ) (file : List ℕ) (l : Lists) → 1 ≤ steps → import_file steps quarter file ≡ ok l
+    (steps quarter : ℕ) (file : List ℕ) (l : Lists) → 1 ≤ steps → import_file steps quarter file ≡ Ok l
     → (hs : List Hit) × WithinRules steps quarter file hs × HoldsFile steps quarter file hs l
 
 -- the writer, given room, accepts what is read
 abbrev pub ImportAccepted : Type 0
-ImportAccepted = (steps quarter : ℕ) (file : List ℕ) (l : Lists) → 1 ≤ steps → import_file steps quarter file ≡ ok l → ListsFine l
+ImportAccepted = (steps quarter : ℕ) (file : List ℕ) (l : Lists) → 1 ≤ steps → import_file steps quarter file ≡ Ok l → ListsFine l
 
 -- with 4 steps to a quarter the division is 4 to 32,764, a multiple of 4
 abbrev pub DivisionExactly : Type 0

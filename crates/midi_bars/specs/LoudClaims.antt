@@ -1,8 +1,8 @@
 -- What is claimed of the velocities, in the customer's words; proved in proofs/Loud.antt.
-use Rattle.std.specs.Prelude.{ℕ, ◌+◌, ◌*◌, ◌≤◌, ◌<◌, ◌≡◌, List, [], map, length, get_or}
+use Rattle.std.specs.Prelude.{Err, Ok, ℕ, ◌+◌, ◌*◌, ◌≤◌, ◌<◌, ◌≡◌, List, [], map, length, get_or}
 use Rattle.common.specs.Elements.{◌∈◌}
 use Rattle.common.specs.Lists.{joined}
-use Rattle.segment.specs.Results.{Result, ok, refuse}
+use Rattle.segment.specs.Results.{Answer}
 use Rattle.segment.specs.Records.{Given}
 use Rattle.calls.specs.Given.{Lists, given}
 use Rattle.midi_read.specs.declared.track.Hit.{Hit}
@@ -13,9 +13,9 @@ use Rattle.midi_bars.specs.Imports.{import_file, import_all}
 use Rattle.midi_bars.specs.Words.{Plays}
 
 -- the lists that the writer takes
-abbrev pub for_the_writer : Result AllLists → Result Lists
-for_the_writer (ok a) = ok a.lists
-for_the_writer (refuse x) = refuse x
+abbrev pub for_the_writer : Answer AllLists → Answer Lists
+for_the_writer (Ok a) = Ok a.lists
+for_the_writer (Err x) = Err x
 
 -- the same files are read, the others are refused the same way, and the lists that the writer takes are the same
 abbrev pub ListsStayed : Type 0
@@ -51,5 +51,5 @@ pub record HoldsLoudness (steps quarter : ℕ) (file : List ℕ) (hs : List Hit)
 -- of every file that is read, whatever the two numbers
 abbrev pub LoudnessHeld : Type 0
 LoudnessHeld =
-    (steps quarter : ℕ) (file : List ℕ) (a : AllLists) → 1 ≤ steps → import_all steps quarter file ≡ ok a
+    (steps quarter : ℕ) (file : List ℕ) (a : AllLists) → 1 ≤ steps → import_all steps quarter file ≡ Ok a
     → (hs : List Hit) × WithinRules steps quarter file hs × HoldsLoudness steps quarter file hs a

@@ -1,19 +1,20 @@
 -- Tables of counts: what they hold at most; and the counting pass a turn at a time.
 -- Assumes nothing.
+use Rattle.std.specs.Prelude.{Err, Ok}
 use mathlib.Core.Path.{◌≡◌, refl, ap, subst}
 use mathlib.Core.Bool.{Bool, true, false, cond}
 use mathlib.Core.List.{List, [], ◌∷◌}
-use Prim.Native.Nat.{ℕ, zero, suc, ◌+◌, ◌-◌, ◌*◌, ◌/◌, ◌≤◌, ◌<◌}
+use Rattle.std.proofs.lemmas.Bool.Decides.{nat_tests}
+use Prim.Native.Nat.{ℕ, max, zero, suc, ◌+◌, ◌-◌, ◌*◌, ◌/◌, ◌≤◌, ◌<◌}
 use native.Mathlib.Nat.{div-lt_iff_lt-mul}
 use native.Mathlib.Omega.{arith}
 use lib.Dec.{eqb}
 use lib.ListN.{get_or, set}
 use Rattle.segment.specs.declared.refusal.Refusal.{Refusal}
-use Rattle.segment.specs.Results.{Result, ok, refuse}
+use Rattle.segment.specs.Results.{Answer}
 use Rattle.midi_read.specs.declared.track.Hit.{Hit}
 use Rattle.midi_read.specs.Files.{Grid, step_of, bar_of, first_event}
 use Rattle.midi_read.specs.Walks.{walk}
-use Rattle.midi_count.specs.declared.count.Tallied.TheVariants.{Bars, Refused}
 use Rattle.midi_bars.specs.Bars.{greater}
 use Rattle.midi_count.specs.Tallies.{Tallies, fresh, opens, raised, tally}
 use Rattle.midi_count.specs.Promise.{zeros, Low, tallies, bars_answer, TablesLeft, Counts, Noted}
@@ -59,6 +60,9 @@ pub noted_state : (g : Grid) (h : Hit) (b : ℕ) {b' : ℕ} {l p q l' p' q' : Li
     → b' ≡ greater b (bar_of g h + 1) → tallies b' l' p' q' ≡ tally g (tallies b l p q) h
 noted_state g h b w e = rw (w.last_left, w.postings_left, w.positions_left, e)
 
+pub max_greater : (a b : ℕ) → max a b ≡ greater a b
+max_greater a b = grind (arith, nat_tests)
+
 -- a step of a bar that is near
 pub near_step : (x steps : ℕ) → 1 ≤ steps → steps ≤ 64 → x / steps ≤ 65535 → x ≤ 4194304
 near_step x steps h k l =
@@ -68,13 +72,13 @@ near_step x steps h k l =
 -- ---- the ways out
 
 module _ (g : Grid) (file last postings positions : List ℕ) where
-  pub stops : {x : Refusal} (l p q : List ℕ) → refuse x ≡ walk (tally g) g file first_event (tallies 0 last postings positions)
-      → Counts g file last postings positions (Refused x) l p q
-  stops l p q e = record { reply = ap bars_answer e; left = subst (λ (w : Result Tallies). TablesLeft w l p q) e tt }
+  pub stops : {x : Refusal} (l p q : List ℕ) → Err x ≡ walk (tally g) g file first_event (tallies 0 last postings positions)
+      → Counts g file last postings positions (Err x) l p q
+  stops l p q e = record { reply = ap bars_answer e; left = subst (λ (w : Answer Tallies). TablesLeft w l p q) e tt }
 
-  pub finishes : (b : ℕ) (l p q : List ℕ) → ok (tallies b l p q) ≡ walk (tally g) g file first_event (tallies 0 last postings positions)
-      → Counts g file last postings positions (Bars b) l p q
-  finishes b l p q e = record { reply = ap bars_answer e; left = subst (λ (w : Result Tallies). TablesLeft w l p q) e (refl, refl, refl) }
+  pub finishes : (b : ℕ) (l p q : List ℕ) → Ok (tallies b l p q) ≡ walk (tally g) g file first_event (tallies 0 last postings positions)
+      → Counts g file last postings positions (Ok b) l p q
+  finishes b l p q e = record { reply = ap bars_answer e; left = subst (λ (w : Answer Tallies). TablesLeft w l p q) e (refl, refl, refl) }
 
 -- ---- empty tables
 

@@ -1,10 +1,8 @@
 -- What the functions of count.rt promise and ask.
-use Rattle.std.specs.Prelude.{ℕ, zero, suc, ◌+◌, ◌/◌, ◌≤◌, ◌<◌, ◌≡◌, List, [], ◌∷◌, length, get_or, set}
-use Rattle.segment.specs.Results.{Result, ok, refuse}
+use Rattle.std.specs.Prelude.{Err, Ok, ℕ, zero, suc, ◌+◌, ◌/◌, ◌≤◌, ◌<◌, ◌≡◌, List, [], ◌∷◌, length, get_or, set}
+use Rattle.segment.specs.Results.{Answer}
 use Rattle.midi_read.specs.Files.{Grid, first_event}
 use Rattle.midi_read.specs.Walks.{walk}
-use Rattle.midi_count.specs.declared.count.Tallied.{Tallied}
-use Rattle.midi_count.specs.declared.count.Tallied.TheVariants as counted
 use Rattle.midi_count.specs.Tallies.{Tallies, fresh, opens, raised, tally}
 
 abbrev pub zeros : ℕ → List ℕ
@@ -18,16 +16,16 @@ tallies b l p q = record { bars = b; last = l; postings = p; positions = q }
 pub record Low (most : ℕ) (l : List ℕ) : Type 0 where
   pub holds : (i : ℕ) → get_or l i 0 ≤ most
 
-abbrev pub bars_answer : Result Tallies → Tallied
-bars_answer (ok t) = counted.Bars t.bars
-bars_answer (refuse x) = counted.Refused x
+abbrev pub bars_answer : Answer Tallies → Answer ℕ
+bars_answer (Ok t) = Ok t.bars
+bars_answer (Err x) = Err x
 
 -- the tables afterwards, where the file was read to its end
-abbrev pub TablesLeft : Result Tallies → (last postings positions : List ℕ) → Type 0
-TablesLeft (ok t) l p q = (l ≡ t.last) × (p ≡ t.postings) × (q ≡ t.positions)
-TablesLeft (refuse x) l p q = Unit {0}
+abbrev pub TablesLeft : Answer Tallies → (last postings positions : List ℕ) → Type 0
+TablesLeft (Ok t) l p q = (l ≡ t.last) × (p ≡ t.postings) × (q ≡ t.positions)
+TablesLeft (Err x) l p q = Unit {0}
 
-pub record Counts (g : Grid) (file last postings positions : List ℕ) (r : Tallied) (last' postings' positions' : List ℕ) : Type 0 where
+pub record Counts (g : Grid) (file last postings positions : List ℕ) (r : Answer ℕ) (last' postings' positions' : List ℕ) : Type 0 where
   pub reply : r ≡ bars_answer (walk (tally g) g file first_event (tallies 0 last postings positions))
   pub left : TablesLeft (walk (tally g) g file first_event (tallies 0 last postings positions)) last' postings' positions'
 

@@ -1,6 +1,7 @@
 -- The filling pass a turn at a time. What holds before each event (Standing): what is left to count from here comes to the total that was
 -- counted before, so that a sound's count so far, with the new one, is at most its total, and the hit's place lies in the sound's part.
 -- Assumes nothing.
+use Rattle.std.specs.Prelude.{Err, Ok}
 use mathlib.Core.Path.{◌≡◌, refl, sym, subst, ◌∙◌}
 use mathlib.Core.Bool.{Bool, true, false}
 use mathlib.Core.List.{List}
@@ -12,12 +13,12 @@ use lib.ListN.{length, get_or, set, length-set}
 use lib.Seq.{get_or-set_same, get_or-set_other}
 use borrow.Author.Tests.{eqb-true, eqb-false, eq-eqb, ne_eqb}
 use Rattle.segment.specs.declared.refusal.Refusal.{Refusal}
-use Rattle.segment.specs.Results.{Result, ok}
+use Rattle.segment.specs.Results.{Answer}
 use Rattle.midi_read.specs.declared.track.Hit.{Hit}
 use Rattle.midi_read.specs.declared.track.Reader.{Reader}
-use Rattle.midi_read.specs.declared.track.Stepped.TheVariants.{Sounds, Silent, Ends, Refused}
+use Rattle.midi_read.specs.declared.track.Step.TheVariants.{Sounds, Silent, Ends}
 use Rattle.midi_read.specs.Files.{Grid, grid, step_of, bar_of, read_event, first_event}
-use Rattle.midi_read.specs.Promise.{event_answer, Within}
+use Rattle.midi_read.specs.Promise.{Within}
 use Rattle.midi_read.specs.Walks.{walk}
 use Rattle.midi_read.proofs.Walks.{past_hit, past_silent, walk_hit, walk_far, walk_silent, walk_end, walk_open, walk_refused}
 use Rattle.midi_bars.specs.Bars.{greater}
@@ -45,7 +46,7 @@ pub record Standing (file : List ℕ) (g : Grid) (starts marks : List ℕ) (x₀
   pub begun : (n : ℕ) → Begun x.last x.postings x.positions n
   pub bars : ℕ
   pub total : Tallies
-  pub counted : walk (tally g) g file from (tallies bars x.last x.postings x.positions) ≡ ok total
+  pub counted : walk (tally g) g file from (tallies bars x.last x.postings x.positions) ≡ Ok total
   pub ids_fit : (n : ℕ) → n < 128 → get_or starts n 0 + get_or total.postings n 0 ≤ length x.ids
   pub counts_fit : (n : ℕ) → n < 128 → get_or starts n 0 + get_or total.postings n 0 ≤ length x.counts
   pub steps_fit : (n : ℕ) → n < 128 → get_or marks n 0 + get_or total.positions n 0 ≤ length x.steps
@@ -84,7 +85,7 @@ standing_start file ticks steps starts marks x f = record {
 
 module _ (file : List ℕ) (g : Grid) (starts marks : List ℕ) (x₀ x : Buffers) (from : Reader)
     (w : Standing file g starts marks x₀ x from) where
-  pub standing_silent : {next : Reader} → event_answer (read_event file from) ≡ Silent next → Standing file g starts marks x₀ x next
+  pub standing_silent : {next : Reader} → read_event file from ≡ Ok (Silent next) → Standing file g starts marks x₀ x next
   standing_silent e =
       let m = past_silent file from e in
       record {
@@ -113,28 +114,28 @@ module _ (file : List ℕ) (g : Grid) (starts marks : List ℕ) (x₀ x : Buffer
 
   -- the ways out
 
-  abbrev whole : Result Buffers
+  abbrev whole : Answer Buffers
   whole = walk (put g starts marks) g file first_event x₀
 
-  pub filled_far : {h : Hit} {next : Reader} → event_answer (read_event file from) ≡ Sounds h next → 65535 < bar_of g h
+  pub filled_far : {h : Hit} {next : Reader} → read_event file from ≡ Ok (Sounds h next) → 65535 < bar_of g h
       → FilledSo whole x
-  filled_far e far = subst (λ (r : Result Buffers). FilledSo r x) (walk_far (put g starts marks) g file from x w.rest e far) tt
+  filled_far e far = subst (λ (r : Answer Buffers). FilledSo r x) (walk_far (put g starts marks) g file from x w.rest e far) tt
 
-  pub filled_refused : {r : Refusal} → event_answer (read_event file from) ≡ Refused r → FilledSo whole x
-  filled_refused e = subst (λ (r : Result Buffers). FilledSo r x) (walk_refused (put g starts marks) g file from x w.rest e) tt
+  pub filled_refused : {r : Refusal} → read_event file from ≡ Err r → FilledSo whole x
+  filled_refused e = subst (λ (r : Answer Buffers). FilledSo r x) (walk_refused (put g starts marks) g file from x w.rest e) tt
 
-  pub filled_end : {past : ℕ} → event_answer (read_event file from) ≡ Ends past → FilledSo whole x
+  pub filled_end : {past : ℕ} → read_event file from ≡ Ok (Ends past) → FilledSo whole x
   filled_end {past} e = step (eqb past (length file)) refl
     where
       step : (b : Bool) → eqb past (length file) ≡ b → FilledSo whole x
       step true t =
-          subst (λ (r : Result Buffers). FilledSo r x)
+          subst (λ (r : Answer Buffers). FilledSo r x)
           (walk_end (put g starts marks) g file from x w.rest e (eqb-true past (length file) t)) refl
       step false t =
-          subst (λ (r : Result Buffers). FilledSo r x)
+          subst (λ (r : Answer Buffers). FilledSo r x)
           (walk_open (put g starts marks) g file from x w.rest e (eqb-false past (length file) t)) tt
 
-  module _ {h : Hit} {next : Reader} (e : event_answer (read_event file from) ≡ Sounds h next) (near : bar_of g h ≤ 65535) where
+  module _ {h : Hit} {next : Reader} (e : read_event file from ≡ Ok (Sounds h next)) (near : bar_of g h ≤ 65535) where
     abbrev n : ℕ
     n = h.note
 
@@ -147,7 +148,7 @@ module _ (file : List ℕ) (g : Grid) (starts marks : List ℕ) (x₀ x : Buffer
     known : n < 128
     known = (past_hit file from e).2.note
 
-    counted_on : walk (tally g) g file next (tally g (tallies w.bars x.last x.postings x.positions) h) ≡ ok w.total
+    counted_on : walk (tally g) g file next (tally g (tallies w.bars x.last x.postings x.positions) h) ≡ Ok w.total
     counted_on = walk_hit (tally g) g file from _ w.counted e near
 
     one_posting : 1 ≤ get_or x.postings n 0 + more

@@ -1,5 +1,6 @@
 -- Both passes over a file that is read.
 -- Assumes nothing.
+use Rattle.std.specs.Prelude.{Ok}
 use mathlib.Core.Path.{◌≡◌, sym, ap, ◌∙◌}
 use mathlib.Core.Bool.{true, ◌&&◌}
 use mathlib.Core.List.{List}
@@ -12,7 +13,7 @@ use lib.ListN.{length, take}
 use borrow.Author.Tests.{leb-true, ltb-true, eqb-true}
 use Rattle.common.proofs.Loops.{lt_or_ge, and_left, and_right}
 use Rattle.segment.specs.Refusals.{too_large, midi_file}
-use Rattle.segment.specs.Results.{Result, ok, ◌>>=◌}
+use Rattle.segment.specs.Results.{Answer, ◌>>=◌}
 use Rattle.segment.specs.Names.{same}
 use Rattle.segment.proofs.Accepted.{check_gives}
 use Rattle.segment.proofs.Binds.{bind_gives, ok_same}
@@ -44,7 +45,7 @@ goes_in d q some whole = step (lt_or_ge 0 (d / q))
     step (inl l) = l
     step (inr l) = absurd (omega (arith, none (omega arith)))
 
-header_ticks : (quarter : ℕ) (file : List ℕ) (ticks : ℕ) → header quarter file ≡ ok ticks → 1 ≤ ticks
+header_ticks : (quarter : ℕ) (file : List ℕ) (ticks : ℕ) → header quarter file ≡ Ok ticks → 1 ≤ ticks
 unfolding header
 header_ticks quarter file ticks e =
     let (_, e₁) = check_gives (leb 14 (length file)) (midi_file 0) _ e in
@@ -56,7 +57,7 @@ header_ticks quarter file ticks e =
     let whole : d % quarter ≡ 0 = eqb-true (d % quarter) 0 (and_right (ltb 0 d && leb d 32767) (eqb (d % quarter) 0) t) in
     omega (arith, is, goes_in d quarter (ltb-true 0 d (and_left (ltb 0 d) (leb d 32767) range)) whole)
 
-pub some_ticks : (steps quarter : ℕ) (file : List ℕ) (g : Grid) → chunks steps quarter file ≡ ok g → 1 ≤ g.ticks
+pub some_ticks : (steps quarter : ℕ) (file : List ℕ) (g : Grid) → chunks steps quarter file ≡ Ok g → 1 ≤ g.ticks
 unfolding chunks
 some_ticks steps quarter file g f =
     let (_, f₁) = check_gives (leb (length file) 16777216) too_large _ f in
@@ -65,10 +66,10 @@ some_ticks steps quarter file g f =
     let is : grid ticks steps ≡ g = ok_same f₃ in
     omega (arith, header_ticks quarter file ticks e, ap (λ (q : Grid). q.ticks) is)
 
-walked : {S : Type 0} (f : S → Hit → S) (g : Grid) (file : List ℕ) (s : S) (hs : List Hit) → hits g file ≡ ok hs
-    → walk f g file first_event s ≡ ok (over f s hs)
+walked : {S : Type 0} (f : S → Hit → S) (g : Grid) (file : List ℕ) (s : S) (hs : List Hit) → hits g file ≡ Ok hs
+    → walk f g file first_event s ≡ Ok (over f s hs)
 unfolding hits
-walked f g file s hs e = ap (λ (r : Result (List Hit)). r >>= (λ hs. ok (over f s hs))) e
+walked f g file s hs e = ap (λ (r : Answer (List Hit)). r >>= (λ hs. Ok (over f s hs))) e
 
 pub passes_right : PassesRight
 passes_right steps quarter file g hs one f k =
@@ -89,7 +90,7 @@ pub record Framed (steps : ℕ) (file : List ℕ) (g : Grid) : Type 0 where
   pub headed : 22 ≤ length file
   pub steps_are : g.steps ≡ steps
 
-pub framed : (steps quarter : ℕ) (file : List ℕ) (g : Grid) → chunks steps quarter file ≡ ok g → Framed steps file g
+pub framed : (steps quarter : ℕ) (file : List ℕ) (g : Grid) → chunks steps quarter file ≡ Ok g → Framed steps file g
 unfolding chunks heading
 framed steps quarter file g f =
     let (small, f₁) = check_gives (leb (length file) 16777216) too_large _ f in

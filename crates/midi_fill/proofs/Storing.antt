@@ -1,14 +1,13 @@
 -- What is stored for a hit: how large it is, that the code's locals are the definition's, and that the counts never fall.
 -- Assumes nothing.
+use Rattle.std.specs.Prelude.{Ok}
 use mathlib.Core.Path.{◌≡◌, ap}
 use mathlib.Core.Bool.{Bool, true, false, cond}
 use mathlib.Core.List.{List, [], ◌∷◌}
-use Prim.Native.Nat.{ℕ, zero, suc, ◌+◌, ◌-◌, ◌/◌, ◌%◌, ◌≤◌, ◌<◌}
+use Prim.Native.Nat.{ℕ, zero, suc, ◌+◌, ◌-◌, ◌/◌, ◌%◌, ◌≤◌}
 use native.Mathlib.Omega.{arith}
 use lib.Dec.{eqb}
 use lib.ListN.{length, get_or, set}
-use borrow.Author.Tests.{eq-eqb, ne_eqb, lt-ltb, le-ltb}
-use Rattle.segment.specs.Results.{ok}
 use Rattle.segment.proofs.Binds.{bind_gives, ok_same}
 use Rattle.midi_read.specs.declared.track.Hit.{Hit}
 use Rattle.midi_read.specs.declared.track.Reader.{Reader}
@@ -23,17 +22,6 @@ in_last_le more new before = go (eqb more 0)
     go : (a : Bool) → cond a (before + new) new ≤ before + new
     go true = omega arith
     go false = omega arith
-
--- the louder of two, or a new step's
-module _ (new held v : ℕ) where
-  pub loud_new : (new ≡ 0 → ⊥) → v ≡ loud_last new held v
-  loud_new k = rw (ne_eqb new 0 k)
-
-  pub loud_more : new ≡ 0 → held < v → v ≡ loud_last new held v
-  loud_more e l = rw (eq-eqb new 0 e, lt-ltb held v l)
-
-  pub loud_less : new ≡ 0 → v ≤ held → held ≡ loud_last new held v
-  loud_less e l = rw (eq-eqb new 0 e, le-ltb held v l)
 
 pub stored_as : (starts marks : List ℕ) (n step steps v : ℕ) (x : Buffers) {more new count loudest bar position : ℕ}
     → more ≡ opens (get_or x.last n 0) step steps
@@ -81,15 +69,15 @@ module _ (g : Grid) where
         positions_up (tally g t h) hs n,
       )
 
-  module _ (file : List ℕ) (from : Reader) (t total : Tallies) (e : walk (tally g) g file from t ≡ ok total) where
+  module _ (file : List ℕ) (from : Reader) (t total : Tallies) (e : walk (tally g) g file from t ≡ Ok total) where
     pub postings_within : (n : ℕ) → get_or t.postings n 0 ≤ get_or total.postings n 0
     postings_within n =
-        let (hs, _, f) = bind_gives (hits_from (length file) g file from) (λ hs. ok (over (tally g) t hs)) e in
+        let (hs, _, f) = bind_gives (hits_from (length file) g file from) (λ hs. Ok (over (tally g) t hs)) e in
         let is : over (tally g) t hs ≡ total = ok_same f in
         omega (arith, postings_up t hs n, ap (λ (u : Tallies). get_or u.postings n 0) is)
 
     pub positions_within : (n : ℕ) → get_or t.positions n 0 ≤ get_or total.positions n 0
     positions_within n =
-        let (hs, _, f) = bind_gives (hits_from (length file) g file from) (λ hs. ok (over (tally g) t hs)) e in
+        let (hs, _, f) = bind_gives (hits_from (length file) g file from) (λ hs. Ok (over (tally g) t hs)) e in
         let is : over (tally g) t hs ≡ total = ok_same f in
         omega (arith, positions_up t hs n, ap (λ (u : Tallies). get_or u.positions n 0) is)

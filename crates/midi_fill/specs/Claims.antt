@@ -1,13 +1,11 @@
 -- What the filling pass comes to: the lists (crate midi_bars). Proved in proofs/Laid.antt and Passed.antt. It needs that ticks never fall
 -- in file order, which crate midi_read proves (proofs/Fine.antt).
-use Rattle.std.specs.Prelude.{ℕ, ◌+◌, ◌≤◌, ◌<◌, ◌≡◌, List, [], ◌∷◌, map, length, get_or}
-use Rattle.segment.specs.Results.{ok}
-use Rattle.common.specs.Lists.{total}
+use Rattle.std.specs.Prelude.{Ok, ℕ, ◌≤◌, ◌≡◌, List, length}
 use Rattle.midi_read.specs.declared.track.Hit.{Hit}
 use Rattle.midi_read.specs.Files.{Grid, first_event, chunks, hits}
 use Rattle.midi_read.specs.Claims.{NeverFall}
 use Rattle.midi_read.specs.Walks.{over, walk}
-use Rattle.midi_bars.specs.Bars.{bar_count, bars_of, positions_of, lists_of}
+use Rattle.midi_bars.specs.Bars.{lists_of}
 use Rattle.midi_bars.specs.Loudness.{velocities_of}
 use Rattle.midi_bars.specs.Claims.{HitsFine}
 use Rattle.midi_count.specs.Tallies.{tally, starts_from}
@@ -41,21 +39,21 @@ FillingRight =
 abbrev pub Fits : Type 0
 Fits =
     (steps quarter : ℕ) (file : List ℕ) (g : Grid) (hs : List Hit) (a b c d : List ℕ) → 1 ≤ steps → steps ≤ 64
-    → chunks steps quarter file ≡ ok g → hits g file ≡ ok hs
+    → chunks steps quarter file ≡ Ok g → hits g file ≡ Ok hs
     → length a ≡ length (lists_of g hs).posting_ids → length b ≡ length (lists_of g hs).position_counts
     → length c ≡ length (lists_of g hs).positions → length d ≡ length (velocities_of g hs)
     → Fillable file g.ticks g.steps (starts_from 0 (counted g hs).postings) (starts_from 0 (counted g hs).positions) (begun a b c d)
 
 -- both passes over a file that is read, as the contracts of `count` and `fill` have them
 pub record BothRight (g : Grid) (file : List ℕ) (hs : List Hit) : Type 0 where
-  pub counting : walk (tally g) g file first_event (tallies 0 (zeros 128) (zeros 128) (zeros 128)) ≡ ok (counted g hs)
+  pub counting : walk (tally g) g file first_event (tallies 0 (zeros 128) (zeros 128) (zeros 128)) ≡ Ok (counted g hs)
   pub counts : CountsRight g hs
-  pub filling : (a b c d : List ℕ) → walk (placed g hs) g file first_event (begun a b c d) ≡ ok (over (placed g hs) (begun a b c d) hs)
+  pub filling : (a b c d : List ℕ) → walk (placed g hs) g file first_event (begun a b c d) ≡ Ok (over (placed g hs) (begun a b c d) hs)
   pub lists : (a b c d : List ℕ) → length a ≡ length (lists_of g hs).posting_ids → length b ≡ length (lists_of g hs).position_counts
       → length c ≡ length (lists_of g hs).positions → length d ≡ length (velocities_of g hs)
       → ListsRight g hs (over (placed g hs) (begun a b c d) hs)
 
 abbrev pub PassesRight : Type 0
 PassesRight =
-    (steps quarter : ℕ) (file : List ℕ) (g : Grid) (hs : List Hit) → 1 ≤ steps → chunks steps quarter file ≡ ok g → hits g file ≡ ok hs
+    (steps quarter : ℕ) (file : List ℕ) (g : Grid) (hs : List Hit) → 1 ≤ steps → chunks steps quarter file ≡ Ok g → hits g file ≡ Ok hs
     → BothRight g file hs

@@ -1,6 +1,6 @@
 -- What the functions of fill.rt ask and promise.
-use Rattle.std.specs.Prelude.{ℕ, ◌+◌, ◌≤◌, ◌<◌, ◌≡◌, List, length, get_or}
-use Rattle.segment.specs.Results.{Result, ok, refuse}
+use Rattle.std.specs.Prelude.{Err, Ok, ℕ, ◌+◌, ◌≤◌, ◌<◌, ◌≡◌, List, length, get_or}
+use Rattle.segment.specs.Results.{Answer}
 use Rattle.midi_read.specs.Files.{grid, first_event}
 use Rattle.midi_read.specs.Walks.{walk}
 use Rattle.midi_count.specs.Tallies.{Tallies, fresh, opens, tally}
@@ -40,16 +40,16 @@ pub record Fillable (file : List ℕ) (ticks steps : ℕ) (starts marks : List �
   pub marks_low : Low 16777216 marks
   pub total : Tallies
   pub counted : walk (tally (grid ticks steps)) (grid ticks steps) file first_event (tallies 0 x.last x.postings x.positions)
-      ≡ ok total
+      ≡ Ok total
   pub ids_fit : (n : ℕ) → n < 128 → get_or starts n 0 + get_or total.postings n 0 ≤ length x.ids
   pub counts_fit : (n : ℕ) → n < 128 → get_or starts n 0 + get_or total.postings n 0 ≤ length x.counts
   pub steps_fit : (n : ℕ) → n < 128 → get_or marks n 0 + get_or total.positions n 0 ≤ length x.steps
   pub velocities_fit : (n : ℕ) → n < 128 → get_or marks n 0 + get_or total.positions n 0 ≤ length x.velocities
 
 -- the tables and lists afterwards, where the file was read to its end
-abbrev pub FilledSo : Result Buffers → Buffers → Type 0
-FilledSo (ok y) x = x ≡ y
-FilledSo (refuse e) x = Unit {0}
+abbrev pub FilledSo : Answer Buffers → Buffers → Type 0
+FilledSo (Ok y) x = x ≡ y
+FilledSo (Err e) x = Unit {0}
 
 -- a file that was counted is read to its end
 abbrev pub Filled : (file : List ℕ) (ticks steps : ℕ) (starts marks : List ℕ) (before after : Buffers) → Type 0

@@ -3,8 +3,8 @@ ghost use Rattle.std.specs.Prelude.{◌≡◌, ◌+◌, ◌≤◌};
 ghost use Rattle.midi_fill.specs.Stores.{in_last, loud_last, buffers, stored};
 ghost use Rattle.midi_fill.specs.Promise.{Puttable, Fillable, Filled};
 
-use midi_count::count::{does_open, is_fresh};
-use midi_read::track::{Reader, Stepped};
+use midi_count::count::{Tables, does_open, is_fresh};
+use midi_read::track::{Reader, Step};
 
 // A new bar begins with the new position, else it is one more.
 fn in_last_bar(more: u64, new: u64, before: u64) -> u64
@@ -24,17 +24,12 @@ fn loudest_on_step(new: u64, held: u8, velocity: u8) -> u8
     if new != 0 {
         return velocity;
     }
-    if held < velocity {
-        return velocity;
-    }
-    held
+    held.max(velocity)
 }
 
 // A hit of a sound on a step, noted in the tables and stored in the lists.
 fn put_hit(
-    last: &mut [u64; 128],
-    postings: &mut [u64; 128],
-    positions: &mut [u64; 128],
+    tables: &mut Tables,
     inside: &mut [u64; 128],
     loud: &mut [u8; 128],
     starts: &[u64; 128],
@@ -50,26 +45,26 @@ fn put_hit(
     velocity: u8,
 )
     requires { Puttable starts.now marks.now note step bar steps
-        (buffers last.old postings.old positions.old inside.old loud.old ids.old counts.old places.old
+        (buffers tables.old.last tables.old.postings tables.old.positions inside.old loud.old ids.old counts.old places.old
         velocities.old) }
-    ensures { buffers last.new postings.new positions.new inside.new loud.new ids.new counts.new places.new
+    ensures { buffers tables.new.last tables.new.postings tables.new.positions inside.new loud.new ids.new counts.new places.new
         velocities.new
         ≡ stored starts.now marks.now note step steps velocity
-        (buffers last.old postings.old positions.old inside.old loud.old ids.old counts.old places.old
+        (buffers tables.old.last tables.old.postings tables.old.positions inside.old loud.old ids.old counts.old places.old
         velocities.old) }
 {
-    let before = last[note];
+    let before = tables.last[note];
     let more = does_open(before, step, bar, steps);
     let new = is_fresh(before, step);
-    let held = postings[note] + more;
-    let marked = positions[note] + new;
+    let held = tables.postings[note] + more;
+    let marked = tables.positions[note] + new;
     let count = in_last_bar(more, new, inside[note]);
     let loudest = loudest_on_step(new, loud[note], velocity);
     let a = (starts[note] + held - 1) as usize;
     let b = (marks[note] + marked - 1) as usize;
-    last[note] = step + 1;
-    postings[note] = held;
-    positions[note] = marked;
+    tables.last[note] = step + 1;
+    tables.postings[note] = held;
+    tables.positions[note] = marked;
     inside[note] = count;
     loud[note] = loudest;
     ids[a] = bar as u32;
@@ -83,9 +78,7 @@ pub fn fill(
     s: &[u8],
     ticks: u64,
     steps: u64,
-    last: &mut [u64; 128],
-    postings: &mut [u64; 128],
-    positions: &mut [u64; 128],
+    tables: &mut Tables,
     inside: &mut [u64; 128],
     loud: &mut [u8; 128],
     starts: &[u64; 128],
@@ -96,11 +89,11 @@ pub fn fill(
     velocities: &mut [u8],
 )
     requires { Fillable s.now ticks steps starts.now marks.now
-        (buffers last.old postings.old positions.old inside.old loud.old ids.old counts.old places.old
+        (buffers tables.old.last tables.old.postings tables.old.positions inside.old loud.old ids.old counts.old places.old
         velocities.old) }
     ensures { Filled s.now ticks steps starts.now marks.now
-        (buffers last.old postings.old positions.old inside.old loud.old ids.old counts.old places.old velocities.old)
-        (buffers last.new postings.new positions.new inside.new loud.new ids.new counts.new places.new
+        (buffers tables.old.last tables.old.postings tables.old.positions inside.old loud.old ids.old counts.old places.old velocities.old)
+        (buffers tables.new.last tables.new.postings tables.new.positions inside.new loud.new ids.new counts.new places.new
         velocities.new) }
 {
     let mut reader = Reader {
@@ -108,9 +101,14 @@ pub fn fill(
         running: 0,
         tick: 0,
     };
+    // The events say where the next one stands and which is the last, so this is no `for`.
     loop {
-        match reader.step(s) {
-            Stepped::Sounds(h, next) => {
+        // Not reached: the count refused such a file.
+        let Ok(event) = reader.step(s) else {
+            return;
+        };
+        match event {
+            Step::Sounds(h, next) => {
                 let step = h.tick / ticks;
                 let bar = step / steps;
                 // Not reached: the count refused such a file.
@@ -120,19 +118,15 @@ pub fn fill(
                 let note = h.note as usize;
                 let velocity = h.velocity as u8;
                 put_hit(
-                    last, postings, positions, inside, loud, starts, marks, ids, counts, places,
-                    velocities, note, step, bar, steps, velocity,
+                    tables, inside, loud, starts, marks, ids, counts, places, velocities, note,
+                    step, bar, steps, velocity,
                 );
                 reader = next;
             }
-            Stepped::Silent(next) => {
+            Step::Silent(next) => {
                 reader = next;
             }
-            Stepped::Ends(_) => {
-                return;
-            }
-            // Not reached: the count refused such a file.
-            Stepped::Refused(_) => {
+            Step::Ends(_) => {
                 return;
             }
         }

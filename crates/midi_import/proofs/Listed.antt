@@ -1,5 +1,6 @@
 -- A file that is read: what its counts say of its lists, and what the second pass leaves.
 -- Assumes nothing.
+use Rattle.std.specs.Prelude.{Ok}
 use mathlib.Core.Path.{◌≡◌, sym, ap, ap₂, subst, ◌∙◌}
 use mathlib.Core.List.{List, [], map}
 use Prim.Native.Nat.{ℕ, ◌*◌, ◌≤◌}
@@ -7,7 +8,7 @@ use native.Mathlib.Omega.{arith}
 use lib.ListN.{length, take, replicate}
 use lib.Seq.{length-take-le}
 use Rattle.common.specs.Lists.{total, joined}
-use Rattle.segment.specs.Results.{Result, ok}
+use Rattle.segment.specs.Results.{Answer}
 use Rattle.segment.specs.declared.replies.ListTotals.{ListTotals}
 use Rattle.segment.proofs.Binds.{ok_same}
 use Rattle.calls.specs.Given.{Lists, lists, ends_from}
@@ -87,7 +88,7 @@ module _ (file : List ℕ) (ticks steps : ℕ) (hs : List Hit) (w : Readable fil
     pub filled_right : (y : Buffers) → Filled file ticks steps starts marks (begun a b c d) y → ListsRight g hs y
     filled_right y f =
         let both = passes_right steps w.chunked.quarter file g hs w.chunked.some_steps w.chunked.chunks_read w.hits_read in
-        let f' = subst (λ (r : Result Buffers). FilledSo r y) (both.filling a b c d) (rw (s, m) at f) in
+        let f' = subst (λ (r : Answer Buffers). FilledSo r y) (both.filling a b c d) (rw (s, m) at f) in
         subst (λ (x : Buffers). ListsRight g hs x) (sym f') (both.lists a b c d la lb lc ld)
 
 pub fill_done : {file starts marks a b c d : List ℕ} {ticks steps : ℕ} (y : Buffers) → FillFits file ticks steps starts marks a b c d
@@ -100,7 +101,7 @@ fill_done {file} {starts} {marks} {a} {b} {c} {d} {ticks} {steps} y w f = record
         filled_right file ticks steps w.hs w.readable starts marks a b c d w.starts_are w.marks_are w.posting_ids_fit
         w.position_counts_fit w.positions_fit w.velocities_fit y f
 
-    each : (hs : List Hit) → hits (grid ticks steps) file ≡ ok hs
+    each : (hs : List Hit) → hits (grid ticks steps) file ≡ Ok hs
         → (y.ids ≡ (lists_of (grid ticks steps) hs).posting_ids)
         × (y.counts ≡ (lists_of (grid ticks steps) hs).position_counts)
         × (y.steps ≡ (lists_of (grid ticks steps) hs).positions)

@@ -1,122 +1,22 @@
--- 13 by lengths: each way out of the nine tests, and that they are the definition's.
+-- 13 by lengths: that the nine tests are the definition's, and what passing them gives.
 -- Assumes nothing.
+use Rattle.std.specs.Prelude.{Ok}
 use mathlib.Core.Path.{◌≡◌, refl}
 use mathlib.Core.Bool.{Bool, true, false}
-use Prim.Native.Nat.{ℕ, ◌*◌, ◌≤◌, ◌<◌}
+use Prim.Native.Nat.{ℕ, ◌*◌, ◌≤◌}
 use lib.Dec.{leb}
 use lib.ListN.{length}
 use native.Mathlib.Omega.{arith}
-use borrow.Author.Tests.{le-leb, lt-leb, leb-true}
-use Rattle.segment.specs.declared.checked.Checked.{Checked}
-use Rattle.segment.specs.declared.checked.Checked.TheVariants as check
+use borrow.Author.Tests.{leb-true}
 use Rattle.segment.specs.declared.replies.ListTotals.{ListTotals}
 use Rattle.segment.specs.Refusals.{no_room}
-use Rattle.segment.specs.Results.{Result, ok, roomy}
+use Rattle.segment.specs.Results.{Answer, roomy}
 use Rattle.segment.specs.Results as results
 use Rattle.segment.proofs.Accepted.{check_gives}
 use Rattle.segment.proofs.Binds.{bind_gives}
-use Rattle.segment.specs.Steps.{checked}
 use Rattle.midi_bars.specs.Loudness.{AllLists}
 use Rattle.midi_bars.specs.Imports.{roomy_all, roomy_beside}
 use Rattle.midi_import.specs.Steps.{room_beside}
-
-module _ (t : ListTotals) (i l x e pc pi kc ps v : ℕ) where
-  abbrev R : Checked
-  R = checked (room_beside t i l x e pc pi kc ps v)
-
-  pub short_1 : i < t.documents → check.Refused (no_room 1 t.documents) ≡ R
-  short_1 h = rw (lt-leb t.documents i h)
-
-  module _ (a : t.documents ≤ i) where
-    pub short_2 : l < t.documents → check.Refused (no_room 2 t.documents) ≡ R
-    short_2 h = rw (le-leb t.documents i a, lt-leb t.documents l h)
-
-    module _ (b : t.documents ≤ l) where
-      pub short_3 : x < 4 * t.terms → check.Refused (no_room 3 (4 * t.terms)) ≡ R
-      short_3 h = rw (le-leb t.documents i a, le-leb t.documents l b, lt-leb (4 * t.terms) x h)
-
-      module _ (c : 4 * t.terms ≤ x) where
-        pub short_4 : e < t.terms → check.Refused (no_room 4 t.terms) ≡ R
-        short_4 h = rw (le-leb t.documents i a, le-leb t.documents l b, le-leb (4 * t.terms) x c, lt-leb t.terms e h)
-
-        module _ (d : t.terms ≤ e) where
-          pub short_5 : pc < t.terms → check.Refused (no_room 5 t.terms) ≡ R
-          short_5 h =
-              rw (
-                le-leb t.documents i a,
-                le-leb t.documents l b,
-                le-leb (4 * t.terms) x c,
-                le-leb t.terms e d,
-                lt-leb t.terms pc h,
-              )
-
-          module _ (f : t.terms ≤ pc) where
-            pub short_6 : pi < t.postings → check.Refused (no_room 6 t.postings) ≡ R
-            short_6 h =
-                rw (
-                  le-leb t.documents i a,
-                  le-leb t.documents l b,
-                  le-leb (4 * t.terms) x c,
-                  le-leb t.terms e d,
-                  le-leb t.terms pc f,
-                  lt-leb t.postings pi h,
-                )
-
-            module _ (g : t.postings ≤ pi) where
-              pub short_7 : kc < t.postings → check.Refused (no_room 7 t.postings) ≡ R
-              short_7 h =
-                  rw (
-                    le-leb t.documents i a,
-                    le-leb t.documents l b,
-                    le-leb (4 * t.terms) x c,
-                    le-leb t.terms e d,
-                    le-leb t.terms pc f,
-                    le-leb t.postings pi g,
-                    lt-leb t.postings kc h,
-                  )
-
-              module _ (k : t.postings ≤ kc) where
-                pub short_8 : ps < t.positions → check.Refused (no_room 8 t.positions) ≡ R
-                short_8 h =
-                    rw (
-                      le-leb t.documents i a,
-                      le-leb t.documents l b,
-                      le-leb (4 * t.terms) x c,
-                      le-leb t.terms e d,
-                      le-leb t.terms pc f,
-                      le-leb t.postings pi g,
-                      le-leb t.postings kc k,
-                      lt-leb t.positions ps h,
-                    )
-
-                module _ (m : t.positions ≤ ps) where
-                  pub short_9 : v < t.positions → check.Refused (no_room 9 t.positions) ≡ R
-                  short_9 h =
-                      rw (
-                        le-leb t.documents i a,
-                        le-leb t.documents l b,
-                        le-leb (4 * t.terms) x c,
-                        le-leb t.terms e d,
-                        le-leb t.terms pc f,
-                        le-leb t.postings pi g,
-                        le-leb t.postings kc k,
-                        le-leb t.positions ps m,
-                        lt-leb t.positions v h,
-                      )
-
-                  pub all_fit : t.positions ≤ v → check.Passed ≡ R
-                  all_fit h =
-                      rw (
-                        le-leb t.documents i a,
-                        le-leb t.documents l b,
-                        le-leb (4 * t.terms) x c,
-                        le-leb t.terms e d,
-                        le-leb t.terms pc f,
-                        le-leb t.postings pi g,
-                        le-leb t.postings kc k,
-                        le-leb t.positions ps m,
-                        le-leb t.positions v h,
-                      )
 
 -- the lengths of nine lists
 pub record TotalsOf (a : AllLists) (t : ListTotals) : Type 0 where
@@ -161,14 +61,14 @@ pub record RoomEnough (a b : AllLists) : Type 0 where
   pub positions : length a.lists.positions ≤ length b.lists.positions
   pub velocities : length a.velocities ≤ length b.velocities
 
-fits : {u : Unit {0}} (buffer n m : ℕ) → roomy buffer n m ≡ ok u → n ≤ m
+fits : {u : Unit {0}} (buffer n m : ℕ) → roomy buffer n m ≡ Ok u → n ≤ m
 fits buffer n m e = step (leb n m) refl e
   where
-    step : {u : Unit {0}} (t : Bool) → leb n m ≡ t → results.check t (no_room buffer n) ≡ ok u → n ≤ m
+    step : {u : Unit {0}} (t : Bool) → leb n m ≡ t → results.check t (no_room buffer n) ≡ Ok u → n ≤ m
     step true t e = leb-true n m t
     step false t e = let z : ◌≡◌ {A = ℕ} 0 1 = cc in absurd (omega arith)
 
-pub room_gives : (a b : AllLists) {u : Unit {0}} → roomy_beside a b ≡ ok u → RoomEnough a b
+pub room_gives : (a b : AllLists) {u : Unit {0}} → roomy_beside a b ≡ Ok u → RoomEnough a b
 unfolding roomy_all roomy_beside
 room_gives a b e =
     let l = a.lists in

@@ -1,17 +1,16 @@
 -- What the counting pass says of a file whose header and heading were read.
 -- Assumes nothing.
+use Rattle.std.specs.Prelude.{Err, Ok}
 use mathlib.Core.Path.{◌≡◌, refl, sym, ap, subst, ◌∙◌}
 use mathlib.Core.List.{List}
 use Prim.Native.Nat.{ℕ, ◌≤◌}
 use native.Mathlib.Omega.{arith}
 use Rattle.segment.specs.declared.refusal.Refusal.{Refusal}
-use Rattle.segment.specs.Results.{Result, ok, refuse, ◌>>=◌}
+use Rattle.segment.specs.Results.{Answer, ◌>>=◌}
 use Rattle.midi_read.specs.declared.track.Hit.{Hit}
 use Rattle.midi_read.specs.Files.{Grid, grid, hits, first_event}
 use Rattle.midi_read.specs.Walks.{walk}
 use Rattle.midi_read.proofs.Fine.{read_so}
-use Rattle.midi_count.specs.declared.count.Tallied.{Tallied}
-use Rattle.midi_count.specs.declared.count.Tallied.TheVariants as tallied
 use Rattle.midi_count.specs.Tallies.{Tallies, tally}
 use Rattle.midi_count.specs.Promise.{zeros, tallies, bars_answer, TablesLeft, Countable, Counts}
 use Rattle.midi_count.specs.Claims.{counted}
@@ -42,31 +41,31 @@ module _ {file : List ℕ} {ticks steps : ℕ} (w : Chunked file ticks steps) wh
       }
 
   -- the pass over the hits
-  abbrev passed : Result (List Hit) → Result Tallies
-  passed r = r >>= (λ hs. ok (counted g hs))
+  abbrev passed : Answer (List Hit) → Answer Tallies
+  passed r = r >>= (λ hs. Ok (counted g hs))
 
   walked : walk (tally g) g file first_event (tallies 0 (zeros 128) (zeros 128) (zeros 128)) ≡ passed (hits g file)
   unfolding hits
   walked = refl
 
-  module _ {r : Tallied} {l p q : List ℕ} (c : Counts g file (zeros 128) (zeros 128) (zeros 128) r l p q) where
-    pub count_refused : {x : Refusal} → r ≡ tallied.Refused x → hits g file ≡ refuse x
+  module _ {r : (Answer ℕ)} {l p q : List ℕ} (c : Counts g file (zeros 128) (zeros 128) (zeros 128) r l p q) where
+    pub count_refused : {x : Refusal} → r ≡ Err x → hits g file ≡ Err x
     count_refused {x} e = step (hits g file) (ap bars_answer (sym walked) ∙ sym c.reply ∙ e)
       where
-        step : (h : Result (List Hit)) → bars_answer (passed h) ≡ tallied.Refused x → h ≡ refuse x
-        step (ok hs) e = let z : ◌≡◌ {A = ℕ} 0 1 = cc in absurd (omega arith)
-        step (refuse y) e = ap refuse cc
+        step : (h : Answer (List Hit)) → bars_answer (passed h) ≡ Err x → h ≡ Err x
+        step (Ok hs) e = let z : ◌≡◌ {A = ℕ} 0 1 = cc in absurd (omega arith)
+        step (Err y) e = ap Err cc
 
-    pub count_tabled : {bars : ℕ} → r ≡ tallied.Bars bars → Tabled file ticks steps bars p q
+    pub count_tabled : {bars : ℕ} → r ≡ Ok bars → Tabled file ticks steps bars p q
     count_tabled {bars} e =
         step (hits g file) refl (ap bars_answer (sym walked) ∙ sym c.reply ∙ e)
-        (subst (λ (t : Result Tallies). TablesLeft t l p q) walked c.left)
+        (subst (λ (t : Answer Tallies). TablesLeft t l p q) walked c.left)
       where
-        step : (h : Result (List Hit)) → hits g file ≡ h → bars_answer (passed h) ≡ tallied.Bars bars → TablesLeft (passed h) l p q
+        step : (h : Answer (List Hit)) → hits g file ≡ h → bars_answer (passed h) ≡ Ok bars → TablesLeft (passed h) l p q
             → Tabled file ticks steps bars p q
-        step (ok hs) is e (_, pe, qe) =
+        step (Ok hs) is e (_, pe, qe) =
             let readable : Readable file ticks steps hs = record { chunked = w; hits_read = is } in
             let all : bars ≡ (counted g hs).bars = cc in
             let right = counting_right g hs a_tick (fine file ticks steps hs readable) (read_so g file hs is).in_order in
             record { hs = hs; readable = readable; bars_are = all ∙ right.bars; postings_are = pe; positions_are = qe }
-        step (refuse x) is e t = let z : ◌≡◌ {A = ℕ} 0 1 = cc in absurd (omega arith)
+        step (Err x) is e t = let z : ◌≡◌ {A = ℕ} 0 1 = cc in absurd (omega arith)

@@ -1,8 +1,7 @@
 -- What the steps of the call ask and leave.
-use Rattle.std.specs.Prelude.{ℕ, ◌*◌, ◌≤◌, ◌≡◌, List, length}
-use Rattle.segment.specs.Results.{Result, ok, ◌>>=◌, roomy}
+use Rattle.std.specs.Prelude.{Ok, ℕ, ◌*◌, ◌≤◌, ◌≡◌, List, length}
+use Rattle.segment.specs.Results.{Answer, ◌>>=◌, roomy}
 use Rattle.segment.specs.declared.replies.ListTotals.{ListTotals}
-use Rattle.segment.specs.declared.replies.Imported.{Imported}
 use Rattle.midi_read.specs.declared.track.Hit.{Hit}
 use Rattle.midi_read.specs.Files.{Grid, grid, chunks, hits}
 use Rattle.midi_bars.specs.Bars.{bar_count, lists_of}
@@ -13,7 +12,7 @@ use Rattle.midi_count.specs.Claims.{counted}
 
 -- ---- 13 by the lengths alone; a name has four bytes
 
-abbrev pub room_of : ListTotals → (ids lengths text ends posting_counts posting_ids position_counts positions : ℕ) → Result (Unit {0})
+abbrev pub room_of : ListTotals → (ids lengths text ends posting_counts posting_ids position_counts positions : ℕ) → Answer (Unit {0})
 room_of t i l x e pc pi kc ps = do
   _ ← roomy 1 t.documents i
   _ ← roomy 2 t.documents l
@@ -25,7 +24,7 @@ room_of t i l x e pc pi kc ps = do
   roomy 8 t.positions ps
 
 abbrev pub room_beside : ListTotals → (ids lengths text ends posting_counts posting_ids position_counts positions velocities : ℕ)
-    → Result (Unit {0})
+    → Answer (Unit {0})
 room_beside t i l x e pc pi kc ps v = do
   _ ← room_of t i l x e pc pi kc ps
   roomy 9 t.positions v
@@ -37,12 +36,12 @@ pub record Chunked (file : List ℕ) (ticks steps : ℕ) : Type 0 where
   pub quarter : ℕ
   pub some_steps : 1 ≤ steps
   pub few_steps : steps ≤ 64
-  pub chunks_read : chunks steps quarter file ≡ ok (grid ticks steps)
+  pub chunks_read : chunks steps quarter file ≡ Ok (grid ticks steps)
 
 -- its events too
 pub record Readable (file : List ℕ) (ticks steps : ℕ) (hs : List Hit) : Type 0 where
   pub chunked : Chunked file ticks steps
-  pub hits_read : hits (grid ticks steps) file ≡ ok hs
+  pub hits_read : hits (grid ticks steps) file ≡ Ok hs
 
 -- the counting pass is done
 pub record Tabled (file : List ℕ) (ticks steps bars : ℕ) (postings positions : List ℕ) : Type 0 where
@@ -67,7 +66,7 @@ pub record FillFits (file : List ℕ) (ticks steps : ℕ) (starts marks posting_
 
 -- of whatever hits the file has
 pub record FillDone (g : Grid) (file posting_ids position_counts positions velocities : List ℕ) : Type 0 where
-  pub each : (hs : List Hit) → hits g file ≡ ok hs
+  pub each : (hs : List Hit) → hits g file ≡ Ok hs
       → (posting_ids ≡ (lists_of g hs).posting_ids)
       × (position_counts ≡ (lists_of g hs).position_counts)
       × (positions ≡ (lists_of g hs).positions)
@@ -94,17 +93,17 @@ pub record StoreFits (file : List ℕ) (ticks steps : ℕ) (postings starts mark
   pub fit : AsLong (all_of (grid ticks steps) hs) b
 
 pub record StoreDone (g : Grid) (file : List ℕ) (b' : AllLists) : Type 0 where
-  pub each : (hs : List Hit) → hits g file ≡ ok hs → b' ≡ all_of g hs
+  pub each : (hs : List Hit) → hits g file ≡ Ok hs → b' ≡ all_of g hs
 
 -- ---- the call behind header and heading
 
 -- the events and 13
-unfoldable pub events_into : Grid → (file : List ℕ) (room : AllLists) → Result AllLists
+unfoldable pub events_into : Grid → (file : List ℕ) (room : AllLists) → Answer AllLists
 events_into g file room = do
   hs ← hits g file
   _ ← roomy_beside (all_of g hs) room
-  ok (all_of g hs)
+  Ok (all_of g hs)
 
-pub record EventsImported (g : Grid) (file : List ℕ) (b : AllLists) (r : Imported) (b' : AllLists) : Type 0 where
+pub record EventsImported (g : Grid) (file : List ℕ) (b : AllLists) (r : Answer ListTotals) (b' : AllLists) : Type 0 where
   pub reply : r ≡ import_answer (events_into g file b)
   pub left : b' ≡ import_left (events_into g file b) b

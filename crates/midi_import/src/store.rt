@@ -2,52 +2,13 @@
 ghost use Rattle.calls.specs.Given.{lists, left_lists};
 ghost use Rattle.midi_read.specs.Files.{grid};
 ghost use Rattle.midi_bars.specs.Loudness.{beside};
-ghost use Rattle.midi_import.specs.Steps.{FillFits, FillDone, StoreFits, StoreDone};
+ghost use Rattle.midi_import.specs.Steps.{StoreFits, StoreDone};
 
+use midi_count::count::Tables;
 use midi_fill::fill::fill;
 use midi_lists::heads::put_heads;
 
-// Posting ids, position counts, positions and velocities: the second pass over the file.
-fn fill_lists(
-    file: &[u8],
-    ticks: u64,
-    steps: u64,
-    starts: &[u64; 128],
-    marks: &[u64; 128],
-    posting_ids: &mut [u32],
-    position_counts: &mut [u32],
-    positions: &mut [u32],
-    velocities: &mut [u8],
-)
-    requires { FillFits file.now ticks steps starts.now marks.now posting_ids.old position_counts.old positions.old
-        velocities.old }
-    ensures { FillDone (grid ticks steps) file.now posting_ids.new position_counts.new positions.new
-        velocities.new }
-{
-    let mut last: [u64; 128] = [0; 128];
-    let mut held: [u64; 128] = [0; 128];
-    let mut marked: [u64; 128] = [0; 128];
-    let mut inside: [u64; 128] = [0; 128];
-    let mut loud: [u8; 128] = [0; 128];
-    fill(
-        file,
-        ticks,
-        steps,
-        &mut last,
-        &mut held,
-        &mut marked,
-        &mut inside,
-        &mut loud,
-        starts,
-        marks,
-        posting_ids,
-        position_counts,
-        positions,
-        velocities,
-    );
-}
-
-// All nine lists.
+// All nine lists: five by the counts alone, and the other four by the second pass over the file.
 pub fn store(
     file: &[u8],
     ticks: u64,
@@ -72,10 +33,16 @@ pub fn store(
         (beside (left_lists ids lengths text ends posting_counts posting_ids position_counts positions) velocities.new) }
 {
     put_heads(postings, steps, ids, lengths, text, ends, posting_counts);
-    fill_lists(
+    let mut tables = Tables::empty();
+    let mut inside: [u64; 128] = [0; 128];
+    let mut loud: [u8; 128] = [0; 128];
+    fill(
         file,
         ticks,
-        steps as u64,
+        u64::from(steps),
+        &mut tables,
+        &mut inside,
+        &mut loud,
         starts,
         marks,
         posting_ids,

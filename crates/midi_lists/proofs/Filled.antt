@@ -6,11 +6,11 @@ use Prim.Native.Nat.{ℕ, suc, ◌+◌, ◌-◌, ◌*◌, ◌/◌, ◌%◌, ◌�
 use native.Mathlib.Nat.{zero-add}
 use native.Mathlib.Numerals.{add-one}
 use native.Mathlib.Omega.{arith}
-use lib.ListN.{length, drop, get_or, set, replicate, length-replicate}
+use lib.ListN.{length, drop, get_or, set}
 use lib.Seq.{sets}
 use Rattle.common.specs.Lists.{total}
 use Rattle.common.specs.Stores.{Stored}
-use Rattle.common.proofs.Loops.{left_suc, left_none, drop_step, drop_end}
+use Rattle.common.proofs.Loops.{drop_step, drop_end}
 use Rattle.calls.proofs.Filling.{ToStore, front_start, part_room, part_next, next_stored, still_long, all_stored, at_front}
 use Rattle.midi_bars.specs.Bars.{rising_from, name_of}
 use Rattle.midi_bars.proofs.Ranges.{range_length}
@@ -55,23 +55,13 @@ module _ {all entry left out : List ℕ} {next : ℕ} (f : Filling all entry lef
       at_front (omega arith) (all_stored f.storing e) ∙ ap (λ (r : List ℕ). all ++ r) (drop_end entry (length all) (omega arith))
       ∙ append-nil all
 
--- ---- ids, lengths, ends: what is left behind i of n
+-- ---- ids, ends: what is left behind i of n
 
 none_yet : (n : ℕ) → n - 0 ≡ n
 none_yet n = omega arith
 
 pub ids_start : (l : List ℕ) → Filling (rising_from 0 (length l)) l (rising_from 0 (length l - 0)) 0 l
 ids_start l = filling_start (ap (rising_from 0) (none_yet (length l))) (range_length 0 (length l))
-
-module _ (x : ℕ) where
-  pub copies_start : (l : List ℕ) → Filling (replicate (length l) x) l (replicate (length l - 0) x) 0 l
-  copies_start l = filling_start (ap (λ (k : ℕ). replicate k x) (none_yet (length l))) (length-replicate (length l) x)
-
-  pub copies_step : (n i : ℕ) → i < n → replicate (n - i) x ≡ x ∷ replicate (n - (i + 1)) x
-  copies_step n i h = ap (λ (k : ℕ). replicate k x) (left_suc n i h)
-
-  pub copies_end : (n i : ℕ) → n ≤ i → replicate (n - i) x ≡ []
-  copies_end n i h = ap (λ (k : ℕ). replicate k x) (left_none n i h)
 
 abbrev pub fours_from : (n i : ℕ) → List ℕ
 fours_from n i = map (λ k. 4 * k) (rising_from (i + 1) (n - i))

@@ -12,10 +12,8 @@ fn put_ids(ids: &mut [u32])
     requires { length ids.old ≤ 65536 }
     ensures { ids.new ≡ rising_from 0 (length ids.old) }
 {
-    let mut i: usize = 0;
-    while i < ids.len() {
-        ids[i] = i as u32;
-        i += 1;
+    for (i, id) in ids.iter_mut().enumerate() {
+        *id = i as u32;
     }
 }
 
@@ -23,11 +21,7 @@ fn put_ids(ids: &mut [u32])
 fn put_lengths(lengths: &mut [u32], steps: u32)
     ensures { lengths.new ≡ replicate (length lengths.old) steps }
 {
-    let mut i: usize = 0;
-    while i < lengths.len() {
-        lengths[i] = steps;
-        i += 1;
-    }
+    lengths.fill(steps);
 }
 
 // Where the names end: each has four bytes.
@@ -35,10 +29,8 @@ fn put_ends(ends: &mut [u32])
     requires { length ends.old ≤ 128 }
     ensures { ends.new ≡ fours (length ends.old) }
 {
-    let mut i: usize = 0;
-    while i < ends.len() {
-        ends[i] = (4 * (i + 1)) as u32;
-        i += 1;
+    for (i, end) in ends.iter_mut().enumerate() {
+        *end = (4 * (i + 1)) as u32;
     }
 }
 
@@ -47,7 +39,7 @@ fn put_name(text: &mut [u8], at: usize, note: usize) -> usize
     requires { (note < 128) × (at + 4 ≤ length text.old) }
     ensures { Stored (name_of note) at text.old result text.new }
 {
-    text[at] = 110;
+    text[at] = b'n';
     text[at + 1] = (48 + note / 100) as u8;
     text[at + 2] = (48 + note / 10 % 10) as u8;
     text[at + 3] = (48 + note % 10) as u8;
@@ -60,12 +52,10 @@ fn put_names(postings: &[u64; 128], text: &mut [u8])
     ensures { text.new ≡ joined (map name_of (heard postings.now)) }
 {
     let mut at: usize = 0;
-    let mut note: usize = 0;
-    while note < 128 {
-        if 0 < postings[note] {
+    for (note, count) in postings.iter().enumerate() {
+        if 0 < *count {
             at = put_name(text, at, note);
         }
-        note += 1;
     }
 }
 
@@ -75,13 +65,11 @@ fn put_counts(postings: &[u64; 128], counts: &mut [u32])
     ensures { counts.new ≡ counts_of postings.now }
 {
     let mut at: usize = 0;
-    let mut note: usize = 0;
-    while note < 128 {
-        if 0 < postings[note] {
-            counts[at] = postings[note] as u32;
+    for count in postings {
+        if 0 < *count {
+            counts[at] = *count as u32;
             at += 1;
         }
-        note += 1;
     }
 }
 

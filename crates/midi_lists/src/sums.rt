@@ -9,11 +9,9 @@ pub fn begin(table: &[u64; 128], starts: &mut [u64; 128]) -> u64
     ensures { Begins table.now result starts.new }
 {
     let mut at: u64 = 0;
-    let mut note: usize = 0;
-    while note < 128 {
-        starts[note] = at;
+    for (note, start) in starts.iter_mut().enumerate() {
+        *start = at;
         at += table[note];
-        note += 1;
     }
     at
 }
@@ -23,12 +21,10 @@ pub fn count_sounds(postings: &[u64; 128]) -> usize
     ensures { result ≡ length (heard postings.now) }
 {
     let mut sounds: usize = 0;
-    let mut note: usize = 0;
-    while note < 128 {
-        if 0 < postings[note] {
+    for count in postings {
+        if 0 < *count {
             sounds += 1;
         }
-        note += 1;
     }
     sounds
 }

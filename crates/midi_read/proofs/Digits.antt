@@ -1,9 +1,9 @@
 -- Variable-length numbers in words and as they are read: the same.
 -- Assumes nothing.
+use Rattle.std.specs.Prelude.{None, Some}
 use mathlib.Core.Path.{◌≡◌, refl, sym, ap, ◌∙◌}
 use mathlib.Core.Bool.{Bool, true, false, cond}
 use mathlib.Core.List.{List, [], ◌∷◌, ◌++◌}
-use mathlib.Core.Option.{none, some}
 use mathlib.Core.Logic.{◌⊎◌, inl, inr}
 use Prim.Native.Nat.{ℕ, zero, suc, ◌+◌, ◌*◌, ◌%◌, ◌≤◌, ◌<◌}
 use native.Mathlib.Omega.{arith}
@@ -14,7 +14,8 @@ use borrow.Author.Tests.{ltb-true, ltb-false}
 use Rattle.common.specs.Elements.{◌∈◌}
 use Rattle.common.proofs.Elements.{each}
 use Rattle.common.proofs.Loops.{lt_or_ge, drop_step, drop_end}
-use Rattle.midi_read.specs.Files.{Number, number_from}
+use Rattle.midi_read.specs.declared.track.Number.{Number}
+use Rattle.midi_read.specs.Files.{number_from}
 use Rattle.midi_read.specs.Tracks.{base_128, IsNumber}
 use Rattle.midi_read.proofs.Numbers.{numbered, last, more}
 
@@ -55,7 +56,7 @@ record Digits (n v : ℕ) (file : List ℕ) (at : ℕ) (r : Number) : Type 0 whe
   rest : drop at file ≡ high ++ (low ∷ drop r.next file)
   value_is : r.value ≡ base_128 v (high ++ (low ∷ []))
 
-digits : (n v : ℕ) (file : List ℕ) (at : ℕ) (r : Number) → number_from n v file at ≡ some r → Digits n v file at r
+digits : (n v : ℕ) (file : List ℕ) (at : ℕ) (r : Number) → number_from n v file at ≡ Some r → Digits n v file at r
 unfolding number_from
 digits zero v file at r e = let z : ◌≡◌ {A = ℕ} 0 1 = cc in absurd (omega arith)
 digits (suc n) v file at r e =
@@ -63,10 +64,10 @@ digits (suc n) v file at r e =
   where
     step : (i l : Bool) → ltb at (length file) ≡ i → ltb (get_or file at 0) 128 ≡ l
         → cond i
-        (cond l (some (numbered (v * 128 + get_or file at 0) (at + 1))) (number_from n (v * 128 + get_or file at 0 % 128) file (at + 1)))
-        none
-        ≡ some r
-        → (number_from n (v * 128 + get_or file at 0 % 128) file (at + 1) ≡ some r
+        (cond l (Some (numbered (v * 128 + get_or file at 0) (at + 1))) (number_from n (v * 128 + get_or file at 0 % 128) file (at + 1)))
+        None
+        ≡ Some r
+        → (number_from n (v * 128 + get_or file at 0 % 128) file (at + 1) ≡ Some r
         → Digits n (v * 128 + get_or file at 0 % 128) file (at + 1) r)
         → Digits (suc n) v file at r
     step true true i l e ih =
@@ -101,7 +102,7 @@ pub record NumberAt (file : List ℕ) (at : ℕ) (r : Number) : Type 0 where
   pub is : IsNumber bytes r.value
   pub rest : drop at file ≡ bytes ++ drop r.next file
 
-pub number_said : (file : List ℕ) (at : ℕ) (r : Number) → number_from 4 0 file at ≡ some r → NumberAt file at r
+pub number_said : (file : List ℕ) (at : ℕ) (r : Number) → number_from 4 0 file at ≡ Some r → NumberAt file at r
 number_said file at r e =
     let d = digits 4 0 file at r e in
     record {
@@ -122,12 +123,12 @@ number_said file at r e =
 
 reads : (high : List ℕ) (n v : ℕ) (file : List ℕ) (at low : ℕ) (rest : List ℕ) → length high < n → ((b : ℕ) → b ∈ high → 128 ≤ b)
     → low ≤ 127 → drop at file ≡ high ++ (low ∷ rest)
-    → number_from n v file at ≡ some (numbered (base_128 v (high ++ (low ∷ []))) (at + length (high ++ (low ∷ []))))
+    → number_from n v file at ≡ Some (numbered (base_128 v (high ++ (low ∷ []))) (at + length (high ++ (low ∷ []))))
 reads [] zero v file at low rest few above below e = absurd (omega arith)
 reads [] (suc n) v file at low rest few above below e =
     let (i, is, _) = front file at low rest e in
     let value_is : v * 128 + get_or file at 0 ≡ v * 128 + low % 128 = omega arith in
-    last file at n v i (omega arith) ∙ ap (λ x. some (numbered x (at + 1))) value_is
+    last file at n v i (omega arith) ∙ ap (λ x. Some (numbered x (at + 1))) value_is
 reads (b ∷ high) zero v file at low rest few above below e = absurd (omega arith)
 reads (b ∷ high) (suc n) v file at low rest few above below e =
     let (i, is, later) = front file at b (high ++ (low ∷ rest)) e in
@@ -136,14 +137,14 @@ reads (b ∷ high) (suc n) v file at low rest few above below e =
     let value_is : v * 128 + get_or file at 0 % 128 ≡ v * 128 + b % 128 = ap (λ x. v * 128 + x % 128) is in
     more file at n v i (omega arith)
     ∙ reads high n (v * 128 + get_or file at 0 % 128) file (at + 1) low rest (omega arith) (λ c m. above c (inr m)) below later
-    ∙ ap (λ x. some (numbered (base_128 x (high ++ (low ∷ []))) (at + 1 + length (high ++ (low ∷ []))))) value_is
-    ∙ ap (λ k. some (numbered (base_128 (v * 128 + b % 128) (high ++ (low ∷ []))) k)) next_is
+    ∙ ap (λ x. Some (numbered (base_128 x (high ++ (low ∷ []))) (at + 1 + length (high ++ (low ∷ []))))) value_is
+    ∙ ap (λ k. Some (numbered (base_128 (v * 128 + b % 128) (high ++ (low ∷ []))) k)) next_is
 
 pub number_read : (file : List ℕ) (at : ℕ) (bytes : List ℕ) (value : ℕ) (rest : List ℕ) → IsNumber bytes value
-    → drop at file ≡ bytes ++ rest → number_from 4 0 file at ≡ some (numbered value (at + length bytes))
+    → drop at file ≡ bytes ++ rest → number_from 4 0 file at ≡ Some (numbered value (at + length bytes))
 number_read file at bytes value rest is e =
     let f : drop at file ≡ is.high ++ (is.last ∷ rest) =
     e ∙ ap (λ (l : List ℕ). l ++ rest) is.bytes_are ∙ append_snoc is.high is.last rest in
     reads is.high 4 0 file at is.last rest (omega (arith, is.at_most_4)) is.above_127 is.at_most_127 f
-    ∙ ap (λ (l : List ℕ). some (numbered (base_128 0 l) (at + length l))) (sym is.bytes_are)
-    ∙ ap (λ x. some (numbered x (at + length bytes))) (sym is.value_is)
+    ∙ ap (λ (l : List ℕ). Some (numbered (base_128 0 l) (at + length l))) (sym is.bytes_are)
+    ∙ ap (λ x. Some (numbered x (at + length bytes))) (sym is.value_is)

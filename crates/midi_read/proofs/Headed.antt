@@ -1,5 +1,6 @@
 -- Header and heading in words, and as they are read: the same. With the track, so is the whole file.
 -- Assumes nothing.
+use Rattle.std.specs.Prelude.{Ok}
 use mathlib.Core.Path.{◌≡◌, refl, sym, ap, ◌∙◌}
 use mathlib.Core.Bool.{true, ◌&&◌}
 use mathlib.Core.List.{List, ◌∷◌, ◌++◌}
@@ -12,7 +13,7 @@ use borrow.Author.Tests.{ltb-true, leb-true, eqb-true, lt-ltb, le-leb, eq-eqb}
 use Rattle.common.proofs.Loops.{drop_step, and_left, and_right}
 use Rattle.segment.specs.Names.{same}
 use Rattle.segment.specs.Refusals.{too_large, midi_file}
-use Rattle.segment.specs.Results.{ok, ◌>>=◌}
+use Rattle.segment.specs.Results.{◌>>=◌}
 use Rattle.segment.proofs.Binds.{bind_gives, ok_same}
 use Rattle.segment.proofs.Accepted.{check_gives}
 use Rattle.segment.proofs.Inversions.{last_gives}
@@ -80,7 +81,7 @@ module _ (steps quarter : ℕ) (file : List ℕ) where
           length_is = sym length_so ∙ omega (arith, length-drop 22 file, l);
         }
 
-  chunks_said : (g : Grid) → chunks steps quarter file ≡ ok g → ChunksSo steps quarter file g
+  chunks_said : (g : Grid) → chunks steps quarter file ≡ Ok g → ChunksSo steps quarter file g
   unfolding chunks header heading
   chunks_said g f =
       let (a, f₁) = check_gives (leb (length file) 16777216) too_large _ f in
@@ -106,7 +107,7 @@ module _ (quarter division : ℕ) (track : List ℕ) (d₁ d₀ s₃ s₂ s₁ s
   F = 0x4D ∷ 0x54 ∷ 0x68 ∷ 0x64 ∷ 0 ∷ 0 ∷ 0 ∷ 6 ∷ 0 ∷ 0 ∷ 0 ∷ 1 ∷ d₁ ∷ d₀ ∷ 0x4D ∷ 0x54 ∷ 0x72 ∷ 0x6B ∷ s₃ ∷ s₂ ∷ s₁ ∷ s₀ ∷ track
 
   header_read : division ≡ d₁ * 256 + d₀ → 1 ≤ division → division ≤ 32767 → division % quarter ≡ 0
-      → header quarter F ≡ ok (division / quarter)
+      → header quarter F ≡ Ok (division / quarter)
   unfolding header
   header_read is some most multiple =
       let field : big_field 2 12 F ≡ division = omega arith in
@@ -119,31 +120,31 @@ module _ (quarter division : ℕ) (track : List ℕ) (d₁ d₀ s₃ s₂ s₁ s
         eq-eqb (division % quarter) 0 multiple,
       )
 
-  heading_read : s₃ * 16777216 + s₂ * 65536 + s₁ * 256 + s₀ ≡ length track → heading F ≡ ok tt
+  heading_read : s₃ * 16777216 + s₂ * 65536 + s₁ * 256 + s₀ ≡ length track → heading F ≡ Ok tt
   unfolding heading
   heading_read is =
       let field : 22 + big_field 4 18 F ≡ length F = omega arith in
       rw (le-leb 22 (length F) (omega arith), same_refl heading_start, eq-eqb (22 + big_field 4 18 F) (length F) field)
 
-chunks_read : (steps quarter : ℕ) (file : List ℕ) (g : Grid) → ChunksSo steps quarter file g → chunks steps quarter file ≡ ok g
+chunks_read : (steps quarter : ℕ) (file : List ℕ) (g : Grid) → ChunksSo steps quarter file g → chunks steps quarter file ≡ Ok g
 unfolding chunks
 chunks_read steps quarter file g c =
     let i = c.is in
-    let h : header quarter file ≡ ok (c.division / quarter) =
+    let h : header quarter file ≡ Ok (c.division / quarter) =
     ap (header quarter) i.bytes_are
     ∙ header_read quarter c.division c.track i.d₁ i.d₀ i.s₃ i.s₂ i.s₁ i.s₀
     i.division_is i.some_ticks i.at_most_32767 i.multiple in
-    let k : heading file ≡ ok tt =
+    let k : heading file ≡ Ok tt =
     ap heading i.bytes_are
     ∙ heading_read quarter c.division c.track i.d₁ i.d₀ i.s₃ i.s₂ i.s₁ i.s₀ i.length_is in
-    rw (le-leb (length file) 16777216 i.small, h, k) (ap ok (sym c.grid_is))
+    rw (le-leb (length file) 16777216 i.small, h, k) (ap Ok (sym c.grid_is))
 
 pub chunks_exactly : ChunksExactly
 chunks_exactly steps quarter file g = (chunks_said steps quarter file g, chunks_read steps quarter file g)
 
 -- ---- the file
 
-files_said : (steps quarter : ℕ) (file : List ℕ) (hs : List Hit) (g : Grid) → chunks steps quarter file ≡ ok g → hits g file ≡ ok hs
+files_said : (steps quarter : ℕ) (file : List ℕ) (hs : List Hit) (g : Grid) → chunks steps quarter file ≡ Ok g → hits g file ≡ Ok hs
     → WithinRules steps quarter file hs
 files_said steps quarter file hs g c h =
     let i = chunks_said steps quarter file g c in
@@ -162,10 +163,10 @@ files_said steps quarter file hs g c h =
 pub files_exactly : FilesExactly
 files_exactly steps quarter file hs = (to, from)
   where
-    to : (chunks steps quarter file >>= (λ g. hits g file)) ≡ ok hs → WithinRules steps quarter file hs
+    to : (chunks steps quarter file >>= (λ g. hits g file)) ≡ Ok hs → WithinRules steps quarter file hs
     to f = let (g, c, h) = bind_gives (chunks steps quarter file) _ f in files_said steps quarter file hs g c h
 
-    from : WithinRules steps quarter file hs → (chunks steps quarter file >>= (λ g. hits g file)) ≡ ok hs
+    from : WithinRules steps quarter file hs → (chunks steps quarter file >>= (λ g. hits g file)) ≡ Ok hs
     from w =
         let behind : w.track ≡ drop 22 file = sym (ap (drop 22) w.is_file.bytes_are) in
         let c = chunks_read steps quarter file (grid (w.division / quarter) steps)

@@ -1,9 +1,9 @@
 -- What follows the status of an event that was read, in words: the data bytes of a channel message, the bytes of a skipped event.
 -- Assumes nothing.
+use Rattle.std.specs.Prelude.{None, Ok, Option, Some}
 use mathlib.Core.Path.{◌≡◌, refl, sym, ap, ◌∙◌}
 use mathlib.Core.Bool.{Bool, true, false, cond}
 use mathlib.Core.List.{List, [], ◌∷◌, ◌++◌}
-use mathlib.Core.Option.{Option, none, some}
 use mathlib.Core.Logic.{◌⊎◌, inl, inr}
 use Prim.Native.Nat.{ℕ, ◌+◌, ◌≤◌, ◌<◌}
 use native.Mathlib.Omega.{arith}
@@ -15,12 +15,15 @@ use Rattle.common.specs.Elements.{◌∈◌}
 use Rattle.common.proofs.Elements.{each}
 use Rattle.common.proofs.Loops.{drop_step}
 use Rattle.segment.specs.Refusals.{midi_file}
-use Rattle.segment.specs.Results.{ok, ◌>>=◌}
+use Rattle.segment.specs.Results.{◌>>=◌}
 use Rattle.segment.proofs.Binds.{bind_gives, ok_same, refuse_ok}
 use Rattle.segment.proofs.Accepted.{check_gives}
 use Rattle.midi_read.specs.declared.track.Reader.{Reader}
 use Rattle.midi_read.specs.declared.track.Hit.{Hit}
-use Rattle.midi_read.specs.Files.{Number, number_from, found, number, byte, low_byte, Event, sounds, silent, ends, reader}
+use Rattle.midi_read.specs.declared.track.Number.{Number}
+use Rattle.midi_read.specs.Files.{number_from, found, number, byte, low_byte, reader}
+use Rattle.midi_read.specs.declared.track.Step.{Step}
+use Rattle.midi_read.specs.declared.track.Step.TheVariants.{Sounds, Silent, Ends}
 use Rattle.midi_read.specs.Files.{one_data_byte, is_hit, two_data_bytes, message, skipped}
 use Rattle.midi_read.specs.Tracks.{IsNumber, channel, with_hit}
 use Rattle.midi_read.proofs.Digits.{number_said}
@@ -28,13 +31,13 @@ use Rattle.midi_read.proofs.Statuses.{one_byte, two_bytes, note_on_is, silent_on
 
 -- ---- bytes that were read
 
-pub byte_says : (start : ℕ) (file : List ℕ) (at : ℕ) {b : ℕ} → byte start file at ≡ ok b → drop at file ≡ b ∷ drop (at + 1) file
+pub byte_says : (start : ℕ) (file : List ℕ) (at : ℕ) {b : ℕ} → byte start file at ≡ Ok b → drop at file ≡ b ∷ drop (at + 1) file
 byte_says start file at {b} e =
     let (t, f) = check_gives (ltb at (length file)) (midi_file start) _ e in
     let is : get_or file at 0 ≡ b = ok_same f in
     drop_step file at 0 (ltb-true at (length file) t) ∙ ap (λ x. x ∷ drop (at + 1) file) is
 
-pub low_says : (start : ℕ) (file : List ℕ) (at : ℕ) {b : ℕ} → low_byte start file at ≡ ok b
+pub low_says : (start : ℕ) (file : List ℕ) (at : ℕ) {b : ℕ} → low_byte start file at ≡ Ok b
     → (b ≤ 127) × (drop at file ≡ b ∷ drop (at + 1) file)
 low_says start file at {b} e =
     let (a, f, k) = bind_gives (byte start file at) _ e in
@@ -42,9 +45,9 @@ low_says start file at {b} e =
     let is : a ≡ b = ok_same s in
     (omega (arith, ltb-true a 128 t), byte_says start file at f ∙ ap (λ x. x ∷ drop (at + 1) file) is)
 
-pub number_gives : (start : ℕ) (o : Option Number) {n : Number} → found start o ≡ ok n → o ≡ some n
-number_gives start none e = refuse_ok e
-number_gives start (some m) e = ap some (ok_same e)
+pub number_gives : (start : ℕ) (o : Option Number) {n : Number} → found start o ≡ Ok n → o ≡ Some n
+number_gives start None e = refuse_ok e
+number_gives start (Some m) e = ap Some (ok_same e)
 
 -- ---- channel messages
 
@@ -57,10 +60,10 @@ pub record MessageAt (file : List ℕ) (status at tick : ℕ) (next : Reader) (h
   pub same : next.tick ≡ tick
   pub hits_are : (later : List Hit) → with_hit tick (channel status values) later ≡ hit ++ later
 
-abbrev pub MessageSaid : (file : List ℕ) (status at tick : ℕ) → Event → Type 0
-MessageSaid file status at tick (sounds h next) = MessageAt file status at tick next (h ∷ [])
-MessageSaid file status at tick (silent next) = MessageAt file status at tick next []
-MessageSaid file status at tick (ends past) = ⊥
+abbrev pub MessageSaid : (file : List ℕ) (status at tick : ℕ) → Step → Type 0
+MessageSaid file status at tick (Sounds h next) = MessageAt file status at tick next (h ∷ [])
+MessageSaid file status at tick (Silent next) = MessageAt file status at tick next []
+MessageSaid file status at tick (Ends past) = ⊥
 
 module _ (start : ℕ) (file : List ℕ) (status at tick : ℕ) where
   one_said : (x : ℕ) → one_data_byte status ≡ true → x ≤ 127 → drop at file ≡ x ∷ drop (at + 1) file
@@ -75,7 +78,7 @@ module _ (start : ℕ) (file : List ℕ) (status at tick : ℕ) where
     hits_are = λ later. rw (silent_one status);
   }
 
-  two_said : (x y : ℕ) (e : Event) → one_data_byte status ≡ false → x ≤ 127 → y ≤ 127 → drop at file ≡ x ∷ drop (at + 1) file
+  two_said : (x y : ℕ) (e : Step) → one_data_byte status ≡ false → x ≤ 127 → y ≤ 127 → drop at file ≡ x ∷ drop (at + 1) file
       → drop (at + 1) file ≡ y ∷ drop (at + 1 + 1) file → two_data_bytes status at tick x y ≡ e → MessageSaid file status at tick e
   two_said x y e t l k ex ey is = rw (sym is) (step (is_hit status y) refl)
     where
@@ -89,8 +92,8 @@ module _ (start : ℕ) (file : List ℕ) (status at tick : ℕ) where
 
       step : (b : Bool) → is_hit status y ≡ b
           → MessageSaid file status at tick
-          (cond b (sounds (record { tick = tick; note = x; velocity = y }) (reader (at + 2) status tick))
-          (silent (reader (at + 2) status tick)))
+          (cond b (Sounds (record { tick = tick; note = x; velocity = y }) (reader (at + 2) status tick))
+          (Silent (reader (at + 2) status tick)))
       step true h = record {
         values = x ∷ y ∷ [];
         count = inr (two_bytes status t, refl);
@@ -110,7 +113,7 @@ module _ (start : ℕ) (file : List ℕ) (status at tick : ℕ) where
         hits_are = λ later. rw (note_on_is status y, h);
       }
 
-  pub message_said : (e : Event) → message start file status at tick ≡ ok e → MessageSaid file status at tick e
+  pub message_said : (e : Step) → message start file status at tick ≡ Ok e → MessageSaid file status at tick e
   unfolding message
   message_said e f =
       let (x, low, g) = bind_gives (low_byte start file at) _ f in
@@ -118,10 +121,10 @@ module _ (start : ℕ) (file : List ℕ) (status at tick : ℕ) where
       step (one_data_byte status) refl x l ex g
     where
       step : (b : Bool) → one_data_byte status ≡ b → (x : ℕ) → x ≤ 127 → drop at file ≡ x ∷ drop (at + 1) file
-          → cond b (ok (silent (reader (at + 1) status tick)))
-          (low_byte start file (at + 1) >>= (λ y. ok (two_data_bytes status at tick x y))) ≡ ok e
+          → cond b (Ok (Silent (reader (at + 1) status tick)))
+          (low_byte start file (at + 1) >>= (λ y. Ok (two_data_bytes status at tick x y))) ≡ Ok e
           → MessageSaid file status at tick e
-      step true t x l ex g = let is : silent (reader (at + 1) status tick) ≡ e = ok_same g in rw (sym is) (one_said x t l ex)
+      step true t x l ex g = let is : Silent (reader (at + 1) status tick) ≡ e = ok_same g in rw (sym is) (one_said x t l ex)
       step false t x l ex g =
           let (y, low, k) = bind_gives (low_byte start file (at + 1)) _ g in
           let (m, ey) = low_says start file (at + 1) low in
@@ -137,19 +140,19 @@ pub record SkipAt (file : List ℕ) (at tick : ℕ) (next : Reader) : Type 0 whe
   pub running : next.running ≡ 0
   pub same : next.tick ≡ tick
 
-abbrev pub SkipSaid : (file : List ℕ) (at tick : ℕ) → Event → Type 0
-SkipSaid file at tick (sounds h next) = ⊥
-SkipSaid file at tick (silent next) = SkipAt file at tick next
-SkipSaid file at tick (ends past) = ⊥
+abbrev pub SkipSaid : (file : List ℕ) (at tick : ℕ) → Step → Type 0
+SkipSaid file at tick (Sounds h next) = ⊥
+SkipSaid file at tick (Silent next) = SkipAt file at tick next
+SkipSaid file at tick (Ends past) = ⊥
 
 module _ (start : ℕ) (file : List ℕ) where
-  pub skipped_said : (at tick : ℕ) (e : Event) → skipped start file at tick ≡ ok e → SkipSaid file at tick e
+  pub skipped_said : (at tick : ℕ) (e : Step) → skipped start file at tick ≡ Ok e → SkipSaid file at tick e
   unfolding skipped
   skipped_said at tick e f =
       let (n, read, g) = bind_gives (number start file at) _ f in
       let d = number_said file at n (number_gives start (number_from 4 0 file at) read) in
       let (t, k) = check_gives (leb (n.next + n.value) (length file)) (midi_file start) _ g in
-      let is : silent (reader (n.next + n.value) 0 tick) ≡ e = ok_same k in
+      let is : Silent (reader (n.next + n.value) 0 tick) ≡ e = ok_same k in
       let inside : n.next + n.value ≤ length file = leb-true _ _ t in
       let long : length (take n.value (drop n.next file)) ≡ n.value =
       length-take-le n.value (drop n.next file) (omega (arith, length-drop n.next file)) in

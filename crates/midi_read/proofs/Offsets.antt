@@ -1,9 +1,9 @@
 -- The offset of a refusal, in words: where no event stands, or a byte behind the end of the track.
 -- Assumes nothing.
+use Rattle.std.specs.Prelude.{Err, None, Ok, Option, Some}
 use mathlib.Core.Path.{◌≡◌, refl, sym, ap, ◌∙◌}
 use mathlib.Core.Bool.{Bool, true, false, cond}
 use mathlib.Core.List.{List, [], ◌∷◌, ◌++◌}
-use mathlib.Core.Option.{Option, none, some}
 use mathlib.Core.Logic.{◌⊎◌, inl, inr}
 use Prim.Native.Nat.{ℕ, zero, suc, ◌+◌, ◌≤◌, ◌<◌}
 use native.Mathlib.Omega.{arith}
@@ -12,11 +12,14 @@ use lib.ListN.{length, drop, get_or}
 use borrow.Author.Tests.{eqb-false}
 use Rattle.common.proofs.Loops.{lt_or_ge}
 use Rattle.segment.specs.declared.refusal.Refusal.{Refusal}
-use Rattle.segment.specs.Refusals.{midi_file, bar_too_far}
-use Rattle.segment.specs.Results.{Result, ok, refuse, ◌>>=◌, check}
+use Rattle.segment.specs.Refusals.{numbers, midi_file, bar_too_far}
+use Rattle.segment.specs.Results.{Answer, ◌>>=◌, check}
 use Rattle.midi_read.specs.declared.track.Reader.{Reader}
 use Rattle.midi_read.specs.declared.track.Hit.{Hit}
-use Rattle.midi_read.specs.Files.{Grid, Number, number_from, found, number, byte, low_byte, Event, sounds, silent, ends, reader}
+use Rattle.midi_read.specs.declared.track.Number.{Number}
+use Rattle.midi_read.specs.Files.{Grid, number_from, found, number, byte, low_byte, reader}
+use Rattle.midi_read.specs.declared.track.Step.{Step}
+use Rattle.midi_read.specs.declared.track.Step.TheVariants.{Sounds, Silent, Ends}
 use Rattle.midi_read.specs.Files.{one_data_byte, exclusive, message, skipped, meta, by_status, read_event, bar_of, after, hits_from}
 use Rattle.midi_read.specs.Files.{hits, first_event}
 use Rattle.midi_read.specs.Claims.{EventFine, OffsetRight}
@@ -30,38 +33,38 @@ use Rattle.midi_read.proofs.Tracks.{runs_on}
 
 module _ {A : Type 0} (x : Refusal) where
   -- refused with nothing else
-  pub record Only (r : Result A) : Type 0 where
-    pub so : (y : Refusal) → r ≡ refuse y → y ≡ x
+  pub record Only (r : Answer A) : Type 0 where
+    pub so : (y : Refusal) → r ≡ Err y → y ≡ x
 
-only_refuse : {A : Type 0} (x : Refusal) → Only {A = A} x (refuse x)
+only_refuse : {A : Type 0} (x : Refusal) → Only {A = A} x (Err x)
 only_refuse x = record { so = λ y e. cc }
 
-only_ok : {A : Type 0} (x : Refusal) (a : A) → Only x (ok a)
+only_ok : {A : Type 0} (x : Refusal) (a : A) → Only x (Ok a)
 only_ok x a = record { so = λ y e. let z : ◌≡◌ {A = ℕ} 0 1 = cc in absurd (omega arith) }
 
-only_then : {A B : Type 0} (x : Refusal) (r : Result A) (f : A → Result B) → Only x r → ((a : A) → Only x (f a)) → Only x (r >>= f)
-only_then x (ok a) f o k = k a
-only_then x (refuse y) f o k = record { so = λ z e. let is : y ≡ z = cc in sym is ∙ o.so y refl }
+only_then : {A B : Type 0} (x : Refusal) (r : Answer A) (f : A → Answer B) → Only x r → ((a : A) → Only x (f a)) → Only x (r >>= f)
+only_then x (Ok a) f o k = k a
+only_then x (Err y) f o k = record { so = λ z e. let is : y ≡ z = cc in sym is ∙ o.so y refl }
 
 -- a test, then the rest
-only_tested : {A : Type 0} (x : Refusal) (t : Bool) (f : Unit {0} → Result A) → Only x (f tt) → Only x (check t x >>= f)
+only_tested : {A : Type 0} (x : Refusal) (t : Bool) (f : Unit {0} → Answer A) → Only x (f tt) → Only x (check t x >>= f)
 only_tested x true f o = o
 only_tested x false f o = only_refuse x
 
-only_cond : {A : Type 0} (x : Refusal) (t : Bool) (p q : Result A) → Only x p → Only x q → Only x (cond t p q)
+only_cond : {A : Type 0} (x : Refusal) (t : Bool) (p q : Answer A) → Only x p → Only x q → Only x (cond t p q)
 only_cond x true p q a b = a
 only_cond x false p q a b = b
 
 only_found : (start : ℕ) (o : Option Number) → Only (midi_file start) (found start o)
-only_found start none = only_refuse (midi_file start)
-only_found start (some n) = only_ok (midi_file start) n
+only_found start None = only_refuse (midi_file start)
+only_found start (Some n) = only_ok (midi_file start) n
 
 module _ (start : ℕ) (file : List ℕ) where
   only_byte : (at : ℕ) → Only (midi_file start) (byte start file at)
-  only_byte at = only_tested (midi_file start) (ltb at (length file)) (λ _. ok (get_or file at 0)) (only_ok _ _)
+  only_byte at = only_tested (midi_file start) (ltb at (length file)) (λ _. Ok (get_or file at 0)) (only_ok _ _)
 
   only_low : (at : ℕ) → Only (midi_file start) (low_byte start file at)
-  only_low at = only_then _ (byte start file at) _ (only_byte at) (λ b. only_tested (midi_file start) (ltb b 128) (λ _. ok b) (only_ok _ _))
+  only_low at = only_then _ (byte start file at) _ (only_byte at) (λ b. only_tested (midi_file start) (ltb b 128) (λ _. Ok b) (only_ok _ _))
 
   only_message : (status at tick : ℕ) → Only (midi_file start) (message start file status at tick)
   unfolding message
@@ -75,7 +78,7 @@ module _ (start : ℕ) (file : List ℕ) where
   only_skipped at tick =
       only_then _ (number start file at) _ (only_found start (number_from 4 0 file at))
       (λ n. only_tested (midi_file start) (leb (n.next + n.value) (length file))
-      (λ _. ok (silent (reader (n.next + n.value) 0 tick))) (only_ok _ _))
+      (λ _. Ok (Silent (reader (n.next + n.value) 0 tick))) (only_ok _ _))
 
   only_meta : (at tick : ℕ) → Only (midi_file start) (meta start file at tick)
   unfolding meta
@@ -83,7 +86,7 @@ module _ (start : ℕ) (file : List ℕ) where
       only_then _ (low_byte start file at) _ (only_low at)
       (λ x. only_cond _ (eqb x 0x2F) _ _
       (only_then _ (byte start file (at + 1)) _ (only_byte (at + 1))
-      (λ b. only_tested (midi_file start) (eqb b 0) (λ _. ok (ends (at + 2))) (only_ok _ _)))
+      (λ b. only_tested (midi_file start) (eqb b 0) (λ _. Ok (Ends (at + 2))) (only_ok _ _)))
       (only_skipped (at + 1) tick))
 
   only_status : (running at tick b : ℕ) → Only (midi_file start) (by_status start file running at tick b)
@@ -123,11 +126,11 @@ record ByteFrom (file : List ℕ) (from : Reader) (i : ℕ) : Type 0 where
 abbrev Stopped : (file : List ℕ) (from : Reader) (i : ℕ) → Type 0
 Stopped file from i = (i ≤ length file) × (NoEventFrom file from i ⊎ ByteFrom file from i)
 
-no_ok : {A : Type 0} (r : Result A) {x : Refusal} {a : A} → r ≡ refuse x → r ≡ ok a → ⊥
+no_ok : {A : Type 0} (r : Answer A) {x : Refusal} {a : A} → r ≡ Err x → r ≡ Ok a → ⊥
 no_ok r e f = let z : ◌≡◌ {A = ℕ} 0 1 = cc in absurd (omega arith)
 
 -- here, where no event is read
-here_none : (file : List ℕ) (from : Reader) (x : Refusal) (i : ℕ) → read_event file from ≡ refuse x → from.at ≡ i
+here_none : (file : List ℕ) (from : Reader) (x : Refusal) (i : ℕ) → read_event file from ≡ Err x → from.at ≡ i
     → NoEventFrom file from i
 here_none file from x i e is = record {
   events = [];
@@ -163,20 +166,20 @@ one_more file from next hit i o (l, inr s) = (
 )
 
 -- what stops a check, and what stops the rest
-check_stops : {B : Type 0} (t : Bool) (x : Refusal) (f : Unit {0} → Result B) {y : Refusal} → check t x >>= f ≡ refuse y
-    → ((t ≡ false) × (x ≡ y)) ⊎ ((t ≡ true) × (f tt ≡ refuse y))
+check_stops : {B : Type 0} (t : Bool) (x : Refusal) (f : Unit {0} → Answer B) {y : Refusal} → check t x >>= f ≡ Err y
+    → ((t ≡ false) × (x ≡ y)) ⊎ ((t ≡ true) × (f tt ≡ Err y))
 check_stops true x f e = inr (refl, e)
 check_stops false x f e = inl (refl, cc)
 
-rest_stops : {A B : Type 0} (r : Result A) (f : A → B) {y : Refusal} → (r >>= (λ a. ok (f a))) ≡ refuse y → r ≡ refuse y
-rest_stops (ok a) f e = let z : ◌≡◌ {A = ℕ} 0 1 = cc in absurd (omega arith)
-rest_stops (refuse x) f e = cc
+rest_stops : {A B : Type 0} (r : Answer A) (f : A → B) {y : Refusal} → (r >>= (λ a. Ok (f a))) ≡ Err y → r ≡ Err y
+rest_stops (Ok a) f e = let z : ◌≡◌ {A = ℕ} 0 1 = cc in absurd (omega arith)
+rest_stops (Err x) f e = cc
 
 not_far : (i : ℕ) → bar_too_far ≡ midi_file i → ⊥
-not_far i e = let z : ◌≡◌ {A = ℕ} 15 14 = ap (λ (x : Refusal). x.kind) e in absurd (omega arith)
+not_far i e = let z : ◌≡◌ {A = ℕ} 15 14 = ap (λ (x : Refusal). (numbers x).kind) e in absurd (omega arith)
 
 from_stops : (n : ℕ) (g : Grid) (file : List ℕ) (from : Reader) (i : ℕ) → Runs from.running → length file < n + from.at
-    → from.at ≤ length file → hits_from n g file from ≡ refuse (midi_file i) → Stopped file from i
+    → from.at ≤ length file → hits_from n g file from ≡ Err (midi_file i) → Stopped file from i
 unfolding hits_from
 from_stops zero g file from i runs fuel inside f = absurd (omega arith)
 from_stops (suc n) g file from i runs fuel inside f = turn (read_event file from) refl f (from_stops n g file)
@@ -184,27 +187,27 @@ from_stops (suc n) g file from i runs fuel inside f = turn (read_event file from
     on : (next : Reader) (hit : List Hit) → OneEvent file from next hit → Runs next.running
     on next hit o = rw o.running_is (runs_on from.running o.event.said o.event.bytes o.says)
 
-    step : (e : Event) → EventSaid file from e → EventFine file from e → after g file (hits_from n g file) e ≡ refuse (midi_file i)
+    step : (e : Step) → EventSaid file from e → EventFine file from e → after g file (hits_from n g file) e ≡ Err (midi_file i)
         → ((next : Reader) (j : ℕ) → Runs next.running → length file < n + next.at → next.at ≤ length file
-        → hits_from n g file next ≡ refuse (midi_file j) → Stopped file next j)
+        → hits_from n g file next ≡ Err (midi_file j) → Stopped file next j)
         → Stopped file from i
-    step (sounds h next) o (m, t, u) k ih = cases (check_stops (leb (bar_of g h) 65535) bar_too_far _ k)
+    step (Sounds h next) o (m, t, u) k ih = cases (check_stops (leb (bar_of g h) 65535) bar_too_far _ k)
       where
         cases : ((leb (bar_of g h) 65535 ≡ false) × (bar_too_far ≡ midi_file i))
-            ⊎ ((leb (bar_of g h) 65535 ≡ true) × ((hits_from n g file next >>= (λ more. ok (h ∷ more))) ≡ refuse (midi_file i)))
+            ⊎ ((leb (bar_of g h) 65535 ≡ true) × ((hits_from n g file next >>= (λ more. Ok (h ∷ more))) ≡ Err (midi_file i)))
             → Stopped file from i
         cases (inl (_, e)) = absurd (not_far i e)
         cases (inr (_, e)) =
             one_more file from next (h ∷ []) i o
             (ih next i (on next (h ∷ []) o) (omega (arith, m.on)) m.inside (rest_stops (hits_from n g file next) (λ more. h ∷ more) e))
-    step (silent next) o m k ih = one_more file from next [] i o (ih next i (on next [] o) (omega (arith, m.on)) m.inside k)
-    step (ends past) o (b, l) k ih = cases (check_stops (eqb past (length file)) (midi_file past) _ k)
+    step (Silent next) o m k ih = one_more file from next [] i o (ih next i (on next [] o) (omega (arith, m.on)) m.inside k)
+    step (Ends past) o (b, l) k ih = cases (check_stops (eqb past (length file)) (midi_file past) _ k)
       where
         cases : ((eqb past (length file) ≡ false) × (midi_file past ≡ midi_file i))
-            ⊎ ((eqb past (length file) ≡ true) × (◌≡◌ {A = Result (List Hit)} (ok []) (refuse (midi_file i))))
+            ⊎ ((eqb past (length file) ≡ true) × (◌≡◌ {A = Answer (List Hit)} (Ok []) (Err (midi_file i))))
             → Stopped file from i
         cases (inl (t, e)) =
-            let is : past ≡ i = ap (λ (x : Refusal). x.index) e in
+            let is : past ≡ i = ap (λ (x : Refusal). (numbers x).index) e in
             let short : past < length file = less (lt_or_ge past (length file)) in (
               omega arith,
               inr (record {
@@ -223,15 +226,15 @@ from_stops (suc n) g file from i runs fuel inside f = turn (read_event file from
             less (inr h) = absurd (eqb-false past (length file) t (omega arith))
         cases (inr (_, e)) = let z : ◌≡◌ {A = ℕ} 0 1 = cc in absurd (omega arith)
 
-    turn : (r : Result Event) → read_event file from ≡ r → (r >>= after g file (hits_from n g file)) ≡ refuse (midi_file i)
+    turn : (r : Answer Step) → read_event file from ≡ r → (r >>= after g file (hits_from n g file)) ≡ Err (midi_file i)
         → ((next : Reader) (j : ℕ) → Runs next.running → length file < n + next.at → next.at ≤ length file
-        → hits_from n g file next ≡ refuse (midi_file j) → Stopped file next j)
+        → hits_from n g file next ≡ Err (midi_file j) → Stopped file next j)
         → Stopped file from i
-    turn (ok e) read k ih = step e (event_said file from e runs read) (events_fine file from e read) k ih
-    turn (refuse x) read k ih =
+    turn (Ok e) read k ih = step e (event_said file from e runs read) (events_fine file from e read) k ih
+    turn (Err x) read k ih =
         let same : x ≡ midi_file i = cc in
         let here : x ≡ midi_file from.at = (only_event file from).so x read in
-        let is : from.at ≡ i = ap (λ (y : Refusal). y.index) (sym here ∙ same) in
+        let is : from.at ≡ i = ap (λ (y : Refusal). (numbers y).index) (sym here ∙ same) in
         (omega arith, inl (here_none file from x i read is))
 
 pub offset_right : OffsetRight

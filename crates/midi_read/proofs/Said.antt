@@ -1,5 +1,6 @@
 -- An event that was read, in words: its delta time, what it says, and the reader behind it.
 -- Assumes nothing.
+use Rattle.std.specs.Prelude.{Err, Ok}
 use mathlib.Core.Path.{◌≡◌, refl, sym, ap, ◌∙◌}
 use mathlib.Core.Bool.{Bool, true, false, cond}
 use mathlib.Core.List.{List, [], ◌∷◌, ◌++◌, append_assoc}
@@ -11,17 +12,18 @@ use lib.ListN.{drop}
 use borrow.Author.Tests.{ltb-true, ltb-false, eqb-true, eqb-false}
 use Rattle.common.proofs.Membership.{or_cases}
 use Rattle.segment.specs.Refusals.{midi_file}
-use Rattle.segment.specs.Results.{ok, refuse, ◌>>=◌, check}
+use Rattle.segment.specs.Results.{◌>>=◌, check}
 use Rattle.segment.proofs.Binds.{bind_gives, ok_same, refuse_ok}
 use Rattle.segment.proofs.Accepted.{check_gives}
 use Rattle.midi_read.specs.declared.track.Reader.{Reader}
 use Rattle.midi_read.specs.declared.track.Hit.{Hit}
-use Rattle.midi_read.specs.Files.{Number, number_from, number, byte, low_byte, Event, sounds, silent, ends, exclusive, message}
-use Rattle.midi_read.specs.Files.{skipped, meta, by_status, read_event}
+use Rattle.midi_read.specs.declared.track.Number.{Number}
+use Rattle.midi_read.specs.Files.{number_from, number, byte, low_byte, exclusive, message, skipped, meta, by_status, read_event}
+use Rattle.midi_read.specs.declared.track.Step.{Step}
+use Rattle.midi_read.specs.declared.track.Step.TheVariants.{Sounds, Silent, Ends}
 use Rattle.midi_read.specs.Tracks.{IsNumber, Said, channel, skipped_over, Timed, Says, running_after, with_hit}
 use Rattle.midi_read.proofs.Digits.{NumberAt, number_said}
-use Rattle.midi_read.proofs.Messages.{byte_says, low_says, number_gives, MessageAt, MessageSaid, message_said, SkipSaid}
-use Rattle.midi_read.proofs.Messages.{skipped_said}
+use Rattle.midi_read.proofs.Messages.{byte_says, low_says, number_gives, MessageAt, MessageSaid, message_said, SkipSaid, skipped_said}
 
 -- ---- behind its delta time
 
@@ -34,10 +36,10 @@ record Behind (file : List ℕ) (running at tick : ℕ) (next : Reader) (hit : L
   same : next.tick ≡ tick
   hits_are : (later : List Hit) → with_hit tick said later ≡ hit ++ later
 
-abbrev BehindSaid : (file : List ℕ) (running at tick : ℕ) → Event → Type 0
-BehindSaid file running at tick (sounds h next) = Behind file running at tick next (h ∷ [])
-BehindSaid file running at tick (silent next) = Behind file running at tick next []
-BehindSaid file running at tick (ends past) = drop at file ≡ 0xFF ∷ 0x2F ∷ 0x00 ∷ drop past file
+abbrev BehindSaid : (file : List ℕ) (running at tick : ℕ) → Step → Type 0
+BehindSaid file running at tick (Sounds h next) = Behind file running at tick next (h ∷ [])
+BehindSaid file running at tick (Silent next) = Behind file running at tick next []
+BehindSaid file running at tick (Ends past) = drop at file ≡ 0xFF ∷ 0x2F ∷ 0x00 ∷ drop past file
 
 -- a status that can run
 abbrev pub Runs : (running : ℕ) → Type 0
@@ -59,26 +61,26 @@ module _ (file : List ℕ) (running status at tick : ℕ) (least : 0x80 ≤ stat
   }
 
   -- under the running status
-  data_said : running ≡ status → (e : Event) → MessageSaid file status at tick e → BehindSaid file running at tick e
-  data_said is (sounds h next) m = channel_said m.values at next (h ∷ []) m (inr (is, refl)) m.rest
-  data_said is (silent next) m = channel_said m.values at next [] m (inr (is, refl)) m.rest
-  data_said is (ends past) m = absurd m
+  data_said : running ≡ status → (e : Step) → MessageSaid file status at tick e → BehindSaid file running at tick e
+  data_said is (Sounds h next) m = channel_said m.values at next (h ∷ []) m (inr (is, refl)) m.rest
+  data_said is (Silent next) m = channel_said m.values at next [] m (inr (is, refl)) m.rest
+  data_said is (Ends past) m = absurd m
 
   -- with its own
-  status_first : drop at file ≡ status ∷ drop (at + 1) file → (e : Event) → MessageSaid file status (at + 1) tick e
+  status_first : drop at file ≡ status ∷ drop (at + 1) file → (e : Step) → MessageSaid file status (at + 1) tick e
       → BehindSaid file running at tick e
-  status_first is (sounds h next) m =
+  status_first is (Sounds h next) m =
       channel_said (status ∷ m.values) (at + 1) next (h ∷ []) m (inl refl) (is ∙ ap (λ (l : List ℕ). status ∷ l) m.rest)
-  status_first is (silent next) m =
+  status_first is (Silent next) m =
       channel_said (status ∷ m.values) (at + 1) next [] m (inl refl) (is ∙ ap (λ (l : List ℕ). status ∷ l) m.rest)
-  status_first is (ends past) m = absurd m
+  status_first is (Ends past) m = absurd m
 
 module _ (file : List ℕ) (running at tick : ℕ) where
   -- behind F0 and F7
-  exclusive_said : (b : ℕ) → exclusive b ≡ true → drop at file ≡ b ∷ drop (at + 1) file → (e : Event) → SkipSaid file (at + 1) tick e
+  exclusive_said : (b : ℕ) → exclusive b ≡ true → drop at file ≡ b ∷ drop (at + 1) file → (e : Step) → SkipSaid file (at + 1) tick e
       → BehindSaid file running at tick e
-  exclusive_said b x is (sounds h next) m = absurd m
-  exclusive_said b x is (silent next) m = record {
+  exclusive_said b x is (Sounds h next) m = absurd m
+  exclusive_said b x is (Silent next) m = record {
     said = skipped_over;
     bytes = b ∷ (m.size ++ m.body);
     says = record {
@@ -99,14 +101,14 @@ module _ (file : List ℕ) (running at tick : ℕ) where
           → (b ∷ [] ≡ 0xF0 ∷ []) ⊎ ((b ∷ [] ≡ 0xF7 ∷ []) ⊎ ((type : ℕ) × (type ≤ 127) × (type ≡ 0x2F → ⊥) × (b ∷ [] ≡ 0xFF ∷ type ∷ [])))
       which (inl e) = inl (ap (λ c. c ∷ []) (eqb-true _ _ e))
       which (inr e) = inr (inl (ap (λ c. c ∷ []) (eqb-true _ _ e)))
-  exclusive_said b x is (ends past) m = absurd m
+  exclusive_said b x is (Ends past) m = absurd m
 
 module _ (start : ℕ) (file : List ℕ) (running at tick : ℕ) (here : drop at file ≡ 0xFF ∷ drop (at + 1) file) where
   -- a meta event that is skipped
-  other_meta : (type : ℕ) → type ≤ 127 → (type ≡ 0x2F → ⊥) → drop (at + 1) file ≡ type ∷ drop (at + 1 + 1) file → (e : Event)
+  other_meta : (type : ℕ) → type ≤ 127 → (type ≡ 0x2F → ⊥) → drop (at + 1) file ≡ type ∷ drop (at + 1 + 1) file → (e : Step)
       → SkipSaid file (at + 1 + 1) tick e → BehindSaid file running at tick e
-  other_meta type l k is (sounds h next) m = absurd m
-  other_meta type l k is (silent next) m = record {
+  other_meta type l k is (Sounds h next) m = absurd m
+  other_meta type l k is (Silent next) m = record {
     said = skipped_over;
     bytes = 0xFF ∷ type ∷ (m.size ++ m.body);
     says = record {
@@ -124,9 +126,9 @@ module _ (start : ℕ) (file : List ℕ) (running at tick : ℕ) (here : drop at
     same = m.same;
     hits_are = λ later. refl;
   }
-  other_meta type l k is (ends past) m = absurd m
+  other_meta type l k is (Ends past) m = absurd m
 
-  meta_said : (e : Event) → meta start file (at + 1) tick ≡ ok e → BehindSaid file running at tick e
+  meta_said : (e : Step) → meta start file (at + 1) tick ≡ Ok e → BehindSaid file running at tick e
   unfolding meta
   meta_said e f =
       let (x, low, g) = bind_gives (low_byte start file (at + 1)) _ f in
@@ -143,19 +145,19 @@ module _ (start : ℕ) (file : List ℕ) (running at tick : ℕ) (here : drop at
           ∙ ap (λ k. k ∷ 0x00 ∷ drop past file) ex)
 
       step : (b : Bool) {y : ℕ} → eqb y 0x2F ≡ b → (x : ℕ) → x ≡ y → x ≤ 127 → drop (at + 1) file ≡ x ∷ drop (at + 1 + 1) file
-          → cond b (byte start file (at + 1 + 1) >>= (λ z. check (eqb z 0) (midi_file start) >>= (λ _. ok (ends (at + 1 + 2)))))
-          (skipped start file (at + 1 + 1) tick) ≡ ok e
+          → cond b (byte start file (at + 1 + 1) >>= (λ z. check (eqb z 0) (midi_file start) >>= (λ _. Ok (Ends (at + 1 + 2)))))
+          (skipped start file (at + 1 + 1) tick) ≡ Ok e
           → BehindSaid file running at tick e
       step true {y} t x s l ex g =
           let (z, read, k) = bind_gives (byte start file (at + 1 + 1)) _ g in
           let (u, j) = check_gives (eqb z 0) (midi_file start) _ k in
-          let is : ends (at + 1 + 2) ≡ e = ok_same j in
+          let is : Ends (at + 1 + 2) ≡ e = ok_same j in
           rw (sym is) (closes (at + 1 + 2) x z (s ∙ eqb-true _ _ t) (eqb-true _ _ u) refl ex (byte_says start file (at + 1 + 1) read))
       step false {y} t x s l ex g =
           other_meta x l (λ q. eqb-false y 0x2F t (sym s ∙ q)) ex e (skipped_said start file (at + 1 + 1) tick e g)
 
 module _ (start : ℕ) (file : List ℕ) (running at tick : ℕ) (runs : Runs running) where
-  status_said : (b : ℕ) (e : Event) → drop at file ≡ b ∷ drop (at + 1) file → by_status start file running at tick b ≡ ok e
+  status_said : (b : ℕ) (e : Step) → drop at file ≡ b ∷ drop (at + 1) file → by_status start file running at tick b ≡ Ok e
       → BehindSaid file running at tick e
   unfolding by_status
   status_said b e here f = first (ltb b 0x80) (ltb b 0xF0) (eqb b 0xFF) (exclusive b) (eqb running 0) refl refl refl refl refl f
@@ -165,10 +167,10 @@ module _ (start : ℕ) (file : List ℕ) (running at tick : ℕ) (runs : Runs ru
       kept_so (inr u) r = u
 
       first : (d c m x r : Bool) → ltb b 0x80 ≡ d → ltb b 0xF0 ≡ c → eqb b 0xFF ≡ m → exclusive b ≡ x → eqb running 0 ≡ r
-          → cond d (cond r (refuse (midi_file start)) (message start file running at tick))
+          → cond d (cond r (Err (midi_file start)) (message start file running at tick))
           (cond c (message start file b (at + 1) tick)
           (cond m (meta start file (at + 1) tick)
-          (cond x (skipped start file (at + 1) tick) (refuse (midi_file start))))) ≡ ok e
+          (cond x (skipped start file (at + 1) tick) (Err (midi_file start))))) ≡ Ok e
           → BehindSaid file running at tick e
       first true c m x true hd hc hm hx hr f = refuse_ok f
       first true c m x false hd hc hm hx hr f =
@@ -200,12 +202,12 @@ pub record TheEnd (file : List ℕ) (from : Reader) (past : ℕ) : Type 0 where
   pub timed : IsNumber time delta
   pub rest : drop from.at file ≡ time ++ (0xFF ∷ 0x2F ∷ 0x00 ∷ drop past file)
 
-abbrev pub EventSaid : (file : List ℕ) (from : Reader) → Event → Type 0
-EventSaid file from (sounds h next) = OneEvent file from next (h ∷ [])
-EventSaid file from (silent next) = OneEvent file from next []
-EventSaid file from (ends past) = TheEnd file from past
+abbrev pub EventSaid : (file : List ℕ) (from : Reader) → Step → Type 0
+EventSaid file from (Sounds h next) = OneEvent file from next (h ∷ [])
+EventSaid file from (Silent next) = OneEvent file from next []
+EventSaid file from (Ends past) = TheEnd file from past
 
-pub event_said : (file : List ℕ) (from : Reader) (e : Event) → Runs from.running → read_event file from ≡ ok e → EventSaid file from e
+pub event_said : (file : List ℕ) (from : Reader) (e : Step) → Runs from.running → read_event file from ≡ Ok e → EventSaid file from e
 unfolding read_event
 event_said file from e runs f =
     let (n, read, g) = bind_gives (number from.at file from.at) _ f in
@@ -225,11 +227,11 @@ event_said file from e runs f =
       hits_are = m.hits_are;
     }
 
-    step : (e : Event) (n : Number) → NumberAt file from.at n → BehindSaid file from.running n.next (from.tick + n.value) e
+    step : (e : Step) (n : Number) → NumberAt file from.at n → BehindSaid file from.running n.next (from.tick + n.value) e
         → EventSaid file from e
-    step (sounds h next) n d m = made n next (h ∷ []) d m
-    step (silent next) n d m = made n next [] d m
-    step (ends past) n d m = record {
+    step (Sounds h next) n d m = made n next (h ∷ []) d m
+    step (Silent next) n d m = made n next [] d m
+    step (Ends past) n d m = record {
       time = d.bytes;
       delta = n.value;
       timed = d.is;

@@ -1,11 +1,13 @@
 -- What is claimed of the events and the hits; proved in proofs/.
-use Rattle.std.specs.Prelude.{ℕ, ◌+◌, ◌*◌, ◌≤◌, ◌<◌, ◌≡◌, List, [], ◌∷◌, ◌⊎◌, ◌↔◌, length}
+use Rattle.std.specs.Prelude.{Err, Ok, ℕ, ◌+◌, ◌*◌, ◌≤◌, ◌<◌, ◌≡◌, List, [], ◌∷◌, ◌⊎◌, ◌↔◌, length}
 use Rattle.common.specs.Elements.{◌∈◌}
 use Rattle.segment.specs.Refusals.{midi_file}
-use Rattle.segment.specs.Results.{ok, refuse, ◌>>=◌}
+use Rattle.segment.specs.Results.{◌>>=◌}
 use Rattle.midi_read.specs.declared.track.Reader.{Reader}
 use Rattle.midi_read.specs.declared.track.Hit.{Hit}
-use Rattle.midi_read.specs.Files.{Grid, Event, sounds, silent, ends, read_event, step_of, bar_of, position_of, chunks, hits}
+use Rattle.midi_read.specs.Files.{Grid, read_event, step_of, bar_of, position_of, chunks, hits}
+use Rattle.midi_read.specs.declared.track.Step.{Step}
+use Rattle.midi_read.specs.declared.track.Step.TheVariants.{Sounds, Silent, Ends}
 use Rattle.midi_read.specs.Tracks.{PlaysSo, ChunksSo, WithinRules, NoEventAt, ByteBehindEnd}
 
 -- a note of seven bits, and a velocity from 1 to 127
@@ -21,13 +23,13 @@ pub record Moved (file : List ℕ) (from next : Reader) : Type 0 where
   pub never_falls : from.tick ≤ next.tick
   pub rises : next.tick ≤ from.tick + 268435455
 
-abbrev pub EventFine : (file : List ℕ) (from : Reader) → Event → Type 0
-EventFine file from (sounds h next) = Moved file from next × (h.tick ≡ next.tick) × Audible h
-EventFine file from (silent next) = Moved file from next
-EventFine file from (ends past) = (from.at + 2 ≤ past) × (past ≤ length file)
+abbrev pub EventFine : (file : List ℕ) (from : Reader) → Step → Type 0
+EventFine file from (Sounds h next) = Moved file from next × (h.tick ≡ next.tick) × Audible h
+EventFine file from (Silent next) = Moved file from next
+EventFine file from (Ends past) = (from.at + 2 ≤ past) × (past ≤ length file)
 
 abbrev pub EventsFine : Type 0
-EventsFine = (file : List ℕ) (from : Reader) (e : Event) → read_event file from ≡ ok e → EventFine file from e
+EventsFine = (file : List ℕ) (from : Reader) (e : Step) → read_event file from ≡ Ok e → EventFine file from e
 
 -- ticks never fall in file order
 abbrev pub NeverFall : (from : ℕ) → List Hit → Type 0
@@ -41,7 +43,7 @@ pub record HitsRead (g : Grid) (file : List ℕ) (hs : List Hit) : Type 0 where
   pub in_order : NeverFall 0 hs
 
 abbrev pub ReadSo : Type 0
-ReadSo = (g : Grid) (file : List ℕ) (hs : List Hit) → hits g file ≡ ok hs → HitsRead g file hs
+ReadSo = (g : Grid) (file : List ℕ) (hs : List Hit) → hits g file ≡ Ok hs → HitsRead g file hs
 
 -- a hit's step is rounded down: it has begun at the hit's tick, and the next one has not. Bar and position are that step divided by the
 -- steps to a bar, quotient and remainder
@@ -58,20 +60,20 @@ GridRight = (g : Grid) (h : Hit) → 1 ≤ g.ticks → 1 ≤ g.steps → OnGrid 
 
 -- events and hits
 abbrev pub TracksExactly : Type 0
-TracksExactly = (g : Grid) (file : List ℕ) (hs : List Hit) → (hits g file ≡ ok hs) ↔ PlaysSo g file hs
+TracksExactly = (g : Grid) (file : List ℕ) (hs : List Hit) → (hits g file ≡ Ok hs) ↔ PlaysSo g file hs
 
 -- header and heading pass exactly so
 abbrev pub ChunksExactly : Type 0
-ChunksExactly = (steps quarter : ℕ) (file : List ℕ) (g : Grid) → (chunks steps quarter file ≡ ok g) ↔ ChunksSo steps quarter file g
+ChunksExactly = (steps quarter : ℕ) (file : List ℕ) (g : Grid) → (chunks steps quarter file ≡ Ok g) ↔ ChunksSo steps quarter file g
 
 -- exactly these are read, whatever the room, and these are their hits
 abbrev pub FilesExactly : Type 0
 FilesExactly =
     (steps quarter : ℕ) (file : List ℕ) (hs : List Hit)
-    → ((chunks steps quarter file >>= (λ g. hits g file)) ≡ ok hs) ↔ WithinRules steps quarter file hs
+    → ((chunks steps quarter file >>= (λ g. hits g file)) ≡ Ok hs) ↔ WithinRules steps quarter file hs
 
 -- the offset that 14 has behind the heading: whole events up to it, and none there; or the end of the track, and then the byte there
 abbrev pub OffsetRight : Type 0
 OffsetRight =
-    (g : Grid) (file : List ℕ) (i : ℕ) → 22 ≤ length file → hits g file ≡ refuse (midi_file i)
+    (g : Grid) (file : List ℕ) (i : ℕ) → 22 ≤ length file → hits g file ≡ Err (midi_file i)
     → (i ≤ length file) × (NoEventAt file i ⊎ ByteBehindEnd file i)

@@ -1,13 +1,9 @@
 // Events of a track, one after the other.
-ghost use Rattle.std.specs.Prelude.{◌≡◌, ◌≤◌, length};
-ghost use Rattle.segment.specs.Results.{refuse};
-ghost use Rattle.midi_read.specs.declared.track.Stepped.TheVariants.{Refused};
-ghost use Rattle.segment.specs.Refusals.{midi_file};
-ghost use Rattle.midi_read.specs.Files.{number_from, one_data_byte, is_hit, exclusive, message, skipped, meta, read_event};
-ghost use Rattle.midi_read.specs.Promise.{number_answer, event_answer, Within};
+ghost use Rattle.std.specs.Prelude.{◌≡◌};
+ghost use Rattle.midi_read.specs.Files.{number_from, byte, low_byte, one_data_byte, is_hit, exclusive, message, skipped, meta, read_event};
+ghost use Rattle.midi_read.specs.Promise.{Within};
 
-use common::widths::byte;
-use segment::refusal::{Refusal, midi_file};
+use segment::refusal::Refusal;
 
 // A place in a file, where a delta time stands: the running status, 0 for none, and the tick so far.
 #[derive(Clone, Copy)]
@@ -25,68 +21,54 @@ pub struct Hit {
     pub velocity: u32,
 }
 
-// What stands at a reader: a hit or another event, each with the reader moved on past it; the end of the track, with the place past it; or
-// no event.
+// What stands at a reader: a hit or another event, each with the reader moved on past it; or the end of the track, with the place past it.
 #[derive(Clone, Copy)]
-pub enum Stepped {
+pub enum Step {
     Sounds(Hit, Reader),
     Silent(Reader),
     Ends(usize),
-    Refused(Refusal),
 }
 
-// A variable-length number with the place past it, or none.
+// A variable-length number, and the place past it.
 #[derive(Clone, Copy)]
-pub enum Numbered {
-    Value(u32, usize),
-    Missing,
+pub struct Number {
+    pub value: u32,
+    pub next: usize,
 }
 
-// The event whose delta time stands at `start` is outside the rules.
-fn break_at(start: usize) -> Stepped
-    ensures { result ≡ Refused (midi_file start) }
+// A variable-length number: one to four bytes, seven bits to a byte, the high ones first, and the high bit set on every byte but the last.
+fn number_at(s: &[u8], at: usize) -> Option<Number>
+    ensures { result ≡ number_from 4 0 s.now at }
 {
-    Stepped::Refused(midi_file(start))
+    let mut value: u32 = 0;
+    for i in 0..4 {
+        let b = u32::from(*s.get(at + i)?);
+        value = value * 128 + b % 128;
+        if b < 128 {
+            let next = at + i + 1;
+            return Some(Number { value, next });
+        }
+    }
+    None
 }
 
-// A variable-length number: one to four bytes, seven bits to a byte, the high ones first.
-fn number(s: &[u8], at: usize) -> Numbered
-    ensures { result ≡ number_answer (number_from 4 0 s.now at) }
+// The byte at an offset, in the event whose delta time stands at `start`: the offset that a refusal has.
+fn byte_at(s: &[u8], start: usize, at: usize) -> Result<u32, Refusal>
+    ensures { result ≡ byte start s.now at }
 {
-    if s.len() <= at {
-        return Numbered::Missing;
+    let b = *s.get(at).ok_or(Refusal::MidiFile(start))?;
+    Ok(u32::from(b))
+}
+
+// A data byte, or the type of a meta event: at most 127.
+fn low_byte_at(s: &[u8], start: usize, at: usize) -> Result<u32, Refusal>
+    ensures { result ≡ low_byte start s.now at }
+{
+    let b = byte_at(s, start, at)?;
+    if 128 <= b {
+        return Err(Refusal::MidiFile(start));
     }
-    let b0 = byte(s[at]);
-    let at1 = at + 1;
-    if b0 < 128 {
-        return Numbered::Value(b0, at1);
-    }
-    if s.len() <= at1 {
-        return Numbered::Missing;
-    }
-    let b1 = byte(s[at1]);
-    let at2 = at1 + 1;
-    let x1 = b0 % 128;
-    if b1 < 128 {
-        return Numbered::Value(x1 * 128 + b1, at2);
-    }
-    if s.len() <= at2 {
-        return Numbered::Missing;
-    }
-    let b2 = byte(s[at2]);
-    let at3 = at2 + 1;
-    let x2 = x1 * 128 + b1 % 128;
-    if b2 < 128 {
-        return Numbered::Value(x2 * 128 + b2, at3);
-    }
-    if s.len() <= at3 {
-        return Numbered::Missing;
-    }
-    let b3 = byte(s[at3]);
-    if b3 < 128 {
-        return Numbered::Value((x2 * 128 + b2 % 128) * 128 + b3, at3 + 1);
-    }
-    Numbered::Missing
+    Ok(b)
 }
 
 // Program change and channel pressure.
@@ -110,123 +92,90 @@ fn is_exclusive(status: u32) -> bool
 }
 
 // A channel message from its data bytes on: one of them for program change and channel pressure, else two.
-fn read_message(s: &[u8], start: usize, status: u32, at: usize, tick: u64) -> Stepped
-    ensures { result ≡ event_answer (message start s.now status at tick) }
+fn read_message(s: &[u8], start: usize, status: u32, at: usize, tick: u64) -> Result<Step, Refusal>
+    ensures { result ≡ message start s.now status at tick }
 {
-    if s.len() <= at {
-        return break_at(start);
-    }
-    let first = byte(s[at]);
-    if 128 <= first {
-        return break_at(start);
-    }
-    let at1 = at + 1;
+    let first = low_byte_at(s, start, at)?;
     if has_one_data_byte(status) {
-        return Stepped::Silent(Reader {
-            at: at1,
+        return Ok(Step::Silent(Reader {
+            at: at + 1,
             running: status,
-            tick: tick,
-        });
+            tick,
+        }));
     }
-    if s.len() <= at1 {
-        return break_at(start);
-    }
-    let second = byte(s[at1]);
-    if 128 <= second {
-        return break_at(start);
-    }
+    let second = low_byte_at(s, start, at + 1)?;
     let next = Reader {
         at: at + 2,
         running: status,
-        tick: tick,
+        tick,
     };
     if is_a_hit(status, second) {
-        return Stepped::Sounds(
-            Hit {
-                tick: tick,
-                note: first,
-                velocity: second,
-            },
-            next,
-        );
+        let hit = Hit {
+            tick,
+            note: first,
+            velocity: second,
+        };
+        return Ok(Step::Sounds(hit, next));
     }
-    Stepped::Silent(next)
+    Ok(Step::Silent(next))
 }
 
 // An event that is skipped by its length, which stands at `at`.
-fn skip(s: &[u8], start: usize, at: usize, tick: u64) -> Stepped
-    ensures { result ≡ event_answer (skipped start s.now at tick) }
+fn skip(s: &[u8], start: usize, at: usize, tick: u64) -> Result<Step, Refusal>
+    ensures { result ≡ skipped start s.now at tick }
 {
-    let Numbered::Value(n, next) = number(s, at) else {
-        return break_at(start);
-    };
-    let size = n as usize;
-    if s.len() - next < size {
-        return break_at(start);
+    let n = number_at(s, at).ok_or(Refusal::MidiFile(start))?;
+    let size = n.value as usize;
+    if s.len() - n.next < size {
+        return Err(Refusal::MidiFile(start));
     }
-    Stepped::Silent(Reader {
-        at: next + size,
+    Ok(Step::Silent(Reader {
+        at: n.next + size,
         running: 0,
-        tick: tick,
-    })
+        tick,
+    }))
 }
 
 // A meta event from its type on.
-fn read_meta(s: &[u8], start: usize, at: usize, tick: u64) -> Stepped
-    ensures { result ≡ event_answer (meta start s.now at tick) }
+fn read_meta(s: &[u8], start: usize, at: usize, tick: u64) -> Result<Step, Refusal>
+    ensures { result ≡ meta start s.now at tick }
 {
-    if s.len() <= at {
-        return break_at(start);
-    }
-    let kind = byte(s[at]);
-    if 128 <= kind {
-        return break_at(start);
-    }
-    let at1 = at + 1;
+    let kind = low_byte_at(s, start, at)?;
     if kind == 0x2F {
-        if s.len() <= at1 {
-            return break_at(start);
+        if byte_at(s, start, at + 1)? != 0 {
+            return Err(Refusal::MidiFile(start));
         }
-        let b = byte(s[at1]);
-        if b == 0 {
-            return Stepped::Ends(at + 2);
-        }
-        return break_at(start);
+        return Ok(Step::Ends(at + 2));
     }
-    skip(s, start, at1, tick)
+    skip(s, start, at + 1, tick)
 }
 
 impl Reader {
-    // The event here.
-    pub fn step(self, s: &[u8]) -> Stepped
+    // The event here; no event is refused with this place.
+    pub fn step(self, s: &[u8]) -> Result<Step, Refusal>
         requires { Within s.now self }
-        ensures { result ≡ event_answer (read_event s.now self) }
+        ensures { result ≡ read_event s.now self }
     {
         let start = self.at;
-        let Numbered::Value(delta, at) = number(s, start) else {
-            return break_at(start);
-        };
-        let tick = self.tick + delta as u64;
-        if s.len() <= at {
-            return break_at(start);
-        }
-        let b = byte(s[at]);
+        let delta = number_at(s, start).ok_or(Refusal::MidiFile(start))?;
+        let at = delta.next;
+        let tick = self.tick + u64::from(delta.value);
+        let b = byte_at(s, start, at)?;
         if b < 0x80 {
             if self.running == 0 {
-                return break_at(start);
+                return Err(Refusal::MidiFile(start));
             }
             return read_message(s, start, self.running, at, tick);
         }
-        let at1 = at + 1;
         if b < 0xF0 {
-            return read_message(s, start, b, at1, tick);
+            return read_message(s, start, b, at + 1, tick);
         }
         if b == 0xFF {
-            return read_meta(s, start, at1, tick);
+            return read_meta(s, start, at + 1, tick);
         }
         if is_exclusive(b) {
-            return skip(s, start, at1, tick);
+            return skip(s, start, at + 1, tick);
         }
-        break_at(start)
+        Err(Refusal::MidiFile(start))
     }
 }

@@ -1,9 +1,9 @@
 -- From bar to bar of a whole pad: the bar that begins here, and the bars left.
 -- Assumes nothing.
+use Rattle.std.specs.Prelude.{None, Option, Some}
 use mathlib.Core.Path.{◌≡◌, refl, sym, ap, ◌∙◌}
 use mathlib.Core.Bool.{true}
 use mathlib.Core.List.{List, [], ◌∷◌}
-use mathlib.Core.Option.{Option, none, some}
 use Prim.Native.Nat.{ℕ, zero, suc, ◌+◌, ◌-◌, ◌*◌, ◌≤◌, ◌<◌}
 use native.Mathlib.Omega.{arith}
 use lib.ListN.{length, drop, get_or}
@@ -21,20 +21,20 @@ drop_later : {A : Type 0} (xs : List A) (i : ℕ) {y : A} {ys : List A} → drop
 drop_later xs i e = sym (drop-drop 1 i xs) ∙ ap (drop 1) e
 
 bar_fine : (previous : Option ℕ) (remaining : ℕ) (bars : List Bar) (i : ℕ) {b : Bar} {bs : List Bar}
-    → bars_fine previous remaining bars ≡ true → drop i bars ≡ b ∷ bs → hits_fine b.len none b.hits ≡ true
+    → bars_fine previous remaining bars ≡ true → drop i bars ≡ b ∷ bs → hits_fine b.len None b.hits ≡ true
 bar_fine previous remaining [] zero f e = absurd (omega (arith, ap length e))
 bar_fine previous remaining [] (suc i) f e = absurd (omega (arith, ap length e))
 bar_fine previous remaining (c ∷ cs) zero {b} f e =
     let w : c ≡ b = cc in
     rw w at (fine_cons previous remaining c cs f).fine
 bar_fine previous remaining (c ∷ cs) (suc i) f e =
-    bar_fine (some c.id) (remaining - length c.hits) cs i (fine_cons previous remaining c cs f).rest e
+    bar_fine (Some c.id) (remaining - length c.hits) cs i (fine_cons previous remaining c cs f).rest e
 
 -- i bars are passed, the next begins at an offset
 pub record Walk (pad : List ℕ) (i at : ℕ) : Type 0 where
   pub words : length pad ≡ pad_words
   pub bars : get_or pad 0 0 ≤ 256
-  pub fine : bars_fine none (get_or pad 1 0) (held pad) ≡ true
+  pub fine : bars_fine None (get_or pad 1 0) (held pad) ≡ true
   pub rest : bars_of (get_or pad 0 0 - i) (drop at pad) ≡ drop i (held pad)
   pub room : at + size (drop i (held pad)) ≤ length pad
 
@@ -78,7 +78,7 @@ module _ {pad : List ℕ} {i at : ℕ} (w : Walk pad i at) where
 
     pub here_rising : HitsRising (bar_at pad at).hits
     here_rising =
-        ((fine_exactly (get_or pad (at + 1) 0) (bar_at pad at).hits).0 (bar_fine none (get_or pad 1 0) (held pad) i w.fine bar_here)).rising
+        ((fine_exactly (get_or pad (at + 1) 0) (bar_at pad at).hits).0 (bar_fine None (get_or pad 1 0) (held pad) i w.fine bar_here)).rising
 
   pub walk_end : get_or pad 0 0 ≤ i → drop i (held pad) ≡ []
   walk_end l = sym w.rest ∙ bars_end pad at (get_or pad 0 0) i l

@@ -9,12 +9,10 @@ pub fn gather_documents(pad: &[u32], ids: &mut [u32; 256], lengths: &mut [u32; 2
     ensures { DocumentsGathered pad.now ids.new lengths.new }
 {
     let bars = long(pad[0]);
-    let mut at: usize = 2;
-    let mut i: usize = 0;
-    while i < bars {
+    let mut at = 2;
+    for i in 0..bars {
         ids[i] = pad[at];
         lengths[i] = pad[at + 1];
         at += 3 + 2 * long(pad[at + 2]);
-        i += 1;
     }
 }

@@ -26,19 +26,14 @@ fn gather_run(
     requires { RunFits pad.now from remaining positions.old filled }
     ensures { Stored (leading sound (hits_of remaining (drop from pad.now))) filled positions.old result positions.new }
 {
-    let mut at = from;
-    let mut next = filled;
-    let mut taken: usize = 0;
-    while taken < remaining {
+    for taken in 0..remaining {
+        let at = from + 2 * taken;
         if pad[at] % VELOCITY_UNIT != sound {
-            return next;
+            return filled + taken;
         }
-        positions[next] = pad[at + 1];
-        at += 2;
-        next += 1;
-        taken += 1;
+        positions[filled + taken] = pad[at + 1];
     }
-    next
+    filled + remaining
 }
 
 // The next posting's place: a bar without the sound has no posting.
@@ -46,10 +41,7 @@ fn past_posting(postings: usize, count: usize) -> usize
     requires { postings < 256 }
     ensures { result ≡ cond (ltb 0 count) (postings + 1) postings }
 {
-    if 0 < count {
-        return postings + 1;
-    }
-    postings
+    if 0 < count { postings + 1 } else { postings }
 }
 
 // The postings of the sound; each bar's cursor is taken past its hits of that sound. A bar's posting is stored in any case, and where it
@@ -66,11 +58,10 @@ pub fn gather_sound(
     ensures { SoundGathered pad.now sound result cursors.new posting_ids.new counts.new positions.new }
 {
     let bars = long(pad[0]);
-    let mut at: usize = 2;
-    let mut i: usize = 0;
-    let mut postings: usize = 0;
-    let mut filled: usize = 0;
-    while i < bars {
+    let mut at = 2;
+    let mut postings = 0;
+    let mut filled = 0;
+    for i in 0..bars {
         let hits = long(pad[at + 2]);
         let done = long(cursors[i]);
         let next = gather_run(
@@ -88,10 +79,9 @@ pub fn gather_sound(
         postings = past_posting(postings, count);
         filled = next;
         at += 3 + 2 * hits;
-        i += 1;
     }
     Gathered {
-        postings: postings,
+        postings,
         positions: filled,
     }
 }

@@ -1,9 +1,9 @@
 -- The list of bars is a map: what is added is found, what is taken out is not, all else stays; and its ids go on rising.
 -- Assumes nothing.
+use Rattle.std.specs.Prelude.{None, Some}
 use mathlib.Core.Path.{◌≡◌, refl, sym, ap, ◌∙◌}
 use mathlib.Core.Bool.{Bool, true, false, cond}
 use mathlib.Core.List.{List, [], ◌∷◌}
-use mathlib.Core.Option.{none, some}
 use mathlib.Core.Logic.{◌⊎◌, inl, inr}
 use Prim.Native.Nat.{ℕ, suc, ◌+◌, ◌≤◌, ◌<◌}
 use native.Mathlib.Omega.{arith}
@@ -20,13 +20,13 @@ use Rattle.pad_map.specs.Bars.{Bar, lookup, insert, without, hits_in_all}
 use Rattle.pad_map.specs.Claims.{ids, Added, TakenOut, AddedRises, TakenOutRises}
 use Rattle.pad_map.proofs.Lookups.{lookup_here, lookup_later}
 
-pub some_none : {A B : Type 0} {x : A} → some x ≡ none → B
+pub some_none : {A B : Type 0} {x : A} → Some x ≡ None → B
 some_none e = let w : ◌≡◌ {A = ℕ} 0 1 = cc in absurd (omega arith)
 
 -- ---- a bar at a time
 
 module _ (c : Bar) (cs : List Bar) (id : ℕ) where
-  lookup_cons : lookup (c ∷ cs) id ≡ cond (eqb c.id id) (some c) (lookup cs id)
+  lookup_cons : lookup (c ∷ cs) id ≡ cond (eqb c.id id) (Some c) (lookup cs id)
   unfolding lookup
   lookup_cons = refl
 
@@ -58,8 +58,8 @@ added [] b id n = ap (λ (l : List Bar). lookup l id) (insert_nil b) ∙ lookup_
 added (c ∷ cs) b id n = go (lt_or_ge c.id b.id) (equal_or_not c.id id) (added cs b id)
   where
     go : (c.id < b.id) ⊎ (b.id ≤ c.id) → (c.id ≡ id) ⊎ (c.id ≡ id → ⊥)
-        → (lookup cs b.id ≡ none → lookup (insert b cs) id ≡ cond (eqb b.id id) (some b) (lookup cs id))
-        → lookup (insert b (c ∷ cs)) id ≡ cond (eqb b.id id) (some b) (lookup (c ∷ cs) id)
+        → (lookup cs b.id ≡ None → lookup (insert b cs) id ≡ cond (eqb b.id id) (Some b) (lookup cs id))
+        → lookup (insert b (c ∷ cs)) id ≡ cond (eqb b.id id) (Some b) (lookup (c ∷ cs) id)
     go (inl h) (inl y) r =
         rw (insert_later b c cs h, lookup_here c (insert b cs) id y, lookup_here c cs id y, ne_eqb b.id id (λ z. omega arith))
     go (inl h) (inr y) r =
@@ -67,7 +67,7 @@ added (c ∷ cs) b id n = go (lt_or_ge c.id b.id) (equal_or_not c.id id) (added 
         (r (sym (lookup_later c cs b.id (λ z. omega arith)) ∙ n))
     go (inr h) x r = ap (λ (l : List Bar). lookup l id) (insert_here b c cs h) ∙ lookup_cons b (c ∷ cs) id
 
-nothing_out : (gone id : ℕ) (t : Bool) → lookup (without gone []) id ≡ cond t none (lookup [] id)
+nothing_out : (gone id : ℕ) (t : Bool) → lookup (without gone []) id ≡ cond t None (lookup [] id)
 unfolding without lookup
 nothing_out gone id true = refl
 nothing_out gone id false = refl
@@ -77,8 +77,8 @@ taken_out [] gone id = nothing_out gone id (eqb gone id)
 taken_out (c ∷ cs) gone id = go (equal_or_not c.id gone) (equal_or_not c.id id) (equal_or_not gone id) (taken_out cs gone id)
   where
     go : (c.id ≡ gone) ⊎ (c.id ≡ gone → ⊥) → (c.id ≡ id) ⊎ (c.id ≡ id → ⊥) → (gone ≡ id) ⊎ (gone ≡ id → ⊥)
-        → lookup (without gone cs) id ≡ cond (eqb gone id) none (lookup cs id)
-        → lookup (without gone (c ∷ cs)) id ≡ cond (eqb gone id) none (lookup (c ∷ cs) id)
+        → lookup (without gone cs) id ≡ cond (eqb gone id) None (lookup cs id)
+        → lookup (without gone (c ∷ cs)) id ≡ cond (eqb gone id) None (lookup (c ∷ cs) id)
     go (inl y) x (inl z) r = rw (without_here c cs gone y, eq-eqb gone id z) (rw (eq-eqb gone id z) at r)
     go (inl y) x (inr z) r =
         rw (without_here c cs gone y, ne_eqb gone id z, lookup_later c cs id (λ q. z (sym y ∙ q))) (rw (ne_eqb gone id z) at r)
@@ -141,12 +141,12 @@ without_fewer id (c ∷ cs) = go (equal_or_not c.id id) (without_fewer id cs)
     go (inr k) (m, n) = rw (without_later c cs id k) (omega arith, omega arith)
 
 -- nothing has the id: nothing is taken out
-pub without_absent : (bars : List Bar) (id : ℕ) → lookup bars id ≡ none → without id bars ≡ bars
+pub without_absent : (bars : List Bar) (id : ℕ) → lookup bars id ≡ None → without id bars ≡ bars
 unfolding without
 without_absent [] id e = refl
 without_absent (c ∷ cs) id e = go (equal_or_not c.id id) (without_absent cs id)
   where
-    go : (c.id ≡ id) ⊎ (c.id ≡ id → ⊥) → (lookup cs id ≡ none → without id cs ≡ cs) → without id (c ∷ cs) ≡ c ∷ cs
+    go : (c.id ≡ id) ⊎ (c.id ≡ id → ⊥) → (lookup cs id ≡ None → without id cs ≡ cs) → without id (c ∷ cs) ≡ c ∷ cs
     go (inl y) r = some_none (sym (lookup_here c cs id y) ∙ e)
     go (inr n) r = without_later c cs id n ∙ ap (λ (l : List Bar). c ∷ l) (r (sym (lookup_later c cs id n) ∙ e))
 
@@ -173,7 +173,7 @@ added_rises [] b n r = rw (insert_nil b) tt
 added_rises (c ∷ cs) b n r = go (lt_or_ge c.id b.id) (equal_or_not c.id b.id) (added_rises cs b)
   where
     go : (c.id < b.id) ⊎ (b.id ≤ c.id) → (c.id ≡ b.id) ⊎ (c.id ≡ b.id → ⊥)
-        → (lookup cs b.id ≡ none → Rising (ids cs) → Rising (ids (insert b cs)))
+        → (lookup cs b.id ≡ None → Rising (ids cs) → Rising (ids (insert b cs)))
         → Rising (ids (insert b (c ∷ cs)))
     go (inl h) x s =
         let later = s (sym (lookup_later c cs b.id (λ y. omega arith)) ∙ n) (rising_tail c.id (ids cs) r) in

@@ -1,10 +1,10 @@
 -- The rules for hits as tests are the rules in words: the order of two hits, and a bar's hits.
 -- Assumes nothing.
+use Rattle.std.specs.Prelude.{None, Option, Some}
 use mathlib.Core.Path.{◌≡◌, refl}
 use mathlib.Core.Bool.{true, ◌&&◌}
 use mathlib.Core.List.{List, [], ◌∷◌}
 use mathlib.Core.Logic.{inl, inr, ⊎_elim}
-use mathlib.Core.Option.{Option, none, some}
 use Prim.Native.Nat.{ℕ, ◌≤◌, ◌<◌}
 use lib.Dec.{eqb, ltb, leb}
 use borrow.Author.Tests.{ltb-true, leb-true, eqb-true, lt-ltb, le-leb, eq-eqb}
@@ -12,9 +12,9 @@ use Rattle.common.specs.Elements.{◌∈◌}
 use Rattle.common.proofs.Elements.{each}
 use Rattle.common.proofs.Loops.{and_left, and_right}
 use Rattle.common.proofs.Membership.{or_cases, or_right}
-use Rattle.pad_map.specs.Bars.{Hit, Key, key_of, with_velocity}
-use Rattle.pad_map.specs.Rules.{ComesBefore, HitsRising, VelocityFits}
-use Rattle.pad_map.specs.Rules.{before, comes_after, velocity_fits, hit_fine, hits_fine}
+use Rattle.pad_map.specs.declared.Key.{Key}
+use Rattle.pad_map.specs.Bars.{Hit, key_of, with_velocity}
+use Rattle.pad_map.specs.Rules.{ComesBefore, HitsRising, VelocityFits, before, comes_after, velocity_fits, hit_fine, hits_fine}
 use Rattle.pad_map.specs.Claims.{OrderExactly, FineExactly}
 
 -- ---- the order of two hits
@@ -42,33 +42,33 @@ order_exactly a b = (order_gives a b, order_from a b)
 -- ---- hits that rise after what stood before them, whose velocity does not matter
 
 abbrev pub HitsAfter : Option Key → List Hit → Type 0
-HitsAfter none hs = HitsRising hs
-HitsAfter (some k) hs = HitsRising (with_velocity k 0 ∷ hs)
+HitsAfter None hs = HitsRising hs
+HitsAfter (Some k) hs = HitsRising (with_velocity k 0 ∷ hs)
 
 after_none : (previous : Option Key) → HitsAfter previous []
-after_none none = tt
-after_none (some k) = tt
+after_none None = tt
+after_none (Some k) = tt
 
-headed : (h : Hit) (hs : List Hit) → HitsAfter (some (key_of h)) hs → HitsRising (h ∷ hs)
+headed : (h : Hit) (hs : List Hit) → HitsAfter (Some (key_of h)) hs → HitsRising (h ∷ hs)
 headed h [] r = tt
 headed h (k ∷ ks) r = r
 
-behind : (h : Hit) (hs : List Hit) → HitsRising (h ∷ hs) → HitsAfter (some (key_of h)) hs
+behind : (h : Hit) (hs : List Hit) → HitsRising (h ∷ hs) → HitsAfter (Some (key_of h)) hs
 behind h [] r = tt
 behind h (k ∷ ks) r = r
 
-after_cons : (previous : Option Key) (h : Hit) (hs : List Hit) → comes_after previous (key_of h) ≡ true → HitsAfter (some (key_of h)) hs
+after_cons : (previous : Option Key) (h : Hit) (hs : List Hit) → comes_after previous (key_of h) ≡ true → HitsAfter (Some (key_of h)) hs
     → HitsAfter previous (h ∷ hs)
-after_cons none h hs t r = headed h hs r
-after_cons (some k) h hs t r = (order_gives (with_velocity k 0) h t, headed h hs r)
+after_cons None h hs t r = headed h hs r
+after_cons (Some k) h hs t r = (order_gives (with_velocity k 0) h t, headed h hs r)
 
 after_head : (previous : Option Key) (h : Hit) (hs : List Hit) → HitsAfter previous (h ∷ hs) → comes_after previous (key_of h) ≡ true
-after_head none h hs r = refl
-after_head (some k) h hs r = order_from (with_velocity k 0) h r.0
+after_head None h hs r = refl
+after_head (Some k) h hs r = order_from (with_velocity k 0) h r.0
 
-after_tail : (previous : Option Key) (h : Hit) (hs : List Hit) → HitsAfter previous (h ∷ hs) → HitsAfter (some (key_of h)) hs
-after_tail none h hs r = behind h hs r
-after_tail (some k) h hs r = behind h hs r.1
+after_tail : (previous : Option Key) (h : Hit) (hs : List Hit) → HitsAfter previous (h ∷ hs) → HitsAfter (Some (key_of h)) hs
+after_tail None h hs r = behind h hs r
+after_tail (Some k) h hs r = behind h hs r.1
 
 -- ---- a velocity
 
@@ -94,8 +94,8 @@ module _ (len : ℕ) where
       record { sounds = λ h m. absurd m; velocities = λ h m. absurd m; rising = after_none previous; steps = λ h m. absurd m }
   fine_gives previous (h ∷ hs) t =
       let k = key_of h in
-      let here = and_left (hit_fine len previous h) (hits_fine len (some k) hs) t in
-      let later = fine_gives (some k) hs (and_right (hit_fine len previous h) (hits_fine len (some k) hs) t) in
+      let here = and_left (hit_fine len previous h) (hits_fine len (Some k) hs) t in
+      let later = fine_gives (Some k) hs (and_right (hit_fine len previous h) (hits_fine len (Some k) hs) t) in
       let low = leb-true h.sound 127 (and_left (leb h.sound 127) _ here) in
       let audible = and_right (leb h.sound 127) (velocity_fits h.velocity && (comes_after previous k && ltb h.step len)) here in
       let others = and_right (velocity_fits h.velocity) (comes_after previous k && ltb h.step len) audible in
@@ -114,7 +114,7 @@ module _ (len : ℕ) where
   unfolding hits_fine hit_fine
   fine_from previous [] f = refl
   fine_from previous (h ∷ hs) f =
-      let later = fine_from (some (key_of h)) hs (record {
+      let later = fine_from (Some (key_of h)) hs (record {
         sounds = λ k m. f.sounds k (inr m);
         velocities = λ k m. f.velocities k (inr m);
         rising = after_tail previous h hs f.rising;
@@ -133,7 +133,7 @@ module _ (len : ℕ) where
 pub fine_exactly : FineExactly
 fine_exactly len hits = (
   λ t.
-      let f = fine_gives len none hits t in
+      let f = fine_gives len None hits t in
       record { sounds = f.sounds; velocities = f.velocities; rising = f.rising; steps = f.steps },
-  λ f. fine_from len none hits (record { sounds = f.sounds; velocities = f.velocities; rising = f.rising; steps = f.steps }),
+  λ f. fine_from len None hits (record { sounds = f.sounds; velocities = f.velocities; rising = f.rising; steps = f.steps }),
 )

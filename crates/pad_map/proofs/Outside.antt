@@ -1,10 +1,10 @@
 -- 22: some velocity is outside its range, and no test before it fails.
 -- Assumes nothing.
+use Rattle.std.specs.Prelude.{Err, None}
 use mathlib.Core.Path.{◌≡◌, refl, sym, ◌∙◌}
 use mathlib.Core.Bool.{Bool, true, false}
 use mathlib.Core.List.{List, [], ◌∷◌}
 use mathlib.Core.Logic.{inl, inr}
-use mathlib.Core.Option.{none}
 use Prim.Native.Nat.{ℕ, ◌≤◌}
 use native.Mathlib.Omega.{arith}
 use lib.Dec.{leb}
@@ -14,7 +14,7 @@ use Rattle.common.proofs.Elements.{each}
 use Rattle.common.proofs.Loops.{true_false, and_left, and_right}
 use Rattle.segment.specs.Refusals.{too_large, list_shape, velocity_range}
 use Rattle.segment.specs.declared.refusal.Refusal.{Refusal}
-use Rattle.segment.specs.Results.{Result, refuse, ◌>>=◌, check}
+use Rattle.segment.specs.Results.{Answer, ◌>>=◌, check}
 use Rattle.pad_map.specs.Rules.{VelocityFits, velocity_fits, all_up_to, all_audible, hits_rise, all_below, check_hits}
 use Rattle.pad_map.specs.Claims.{VelocityOut, VelocityExactly}
 use Rattle.pad_map.proofs.Ordered.{fits_gives, fits_from}
@@ -70,20 +70,20 @@ not_audible vs v m out = go (all_audible vs) refl
 -- ---- the tests one behind another
 
 -- refused here, where nothing behind it refuses so
-refused_here : {B : Type 0} (t : Bool) (x : Refusal) (f : Unit {0} → Result B) → (f tt ≡ refuse x → ⊥) → check t x >>= f ≡ refuse x
+refused_here : {B : Type 0} (t : Bool) (x : Refusal) (f : Unit {0} → Answer B) → (f tt ≡ Err x → ⊥) → check t x >>= f ≡ Err x
     → t ≡ false
 refused_here true x f n e = absurd (n e)
 refused_here false x f n e = refl
 
 module _ (len : ℕ) (ss ts vs : List ℕ) where
-  outside_gives : check_hits len ss ts vs ≡ refuse velocity_range → VelocityOut ss ts vs
+  outside_gives : check_hits len ss ts vs ≡ Err velocity_range → VelocityOut ss ts vs
   unfolding check_hits
   outside_gives e =
       let (small, a) = other_passed (small_test ss ts vs) too_large _ (λ z. omega arith) e in
       let (even, b) = other_passed (even_test ss ts vs) list_shape _ (λ z. omega arith) a in
       let (low, c) = other_passed (all_up_to 127 ss) too_large _ (λ z. omega arith) b in
       let o = one_outside vs (refused_here (all_audible vs) velocity_range _ (λ d.
-      let (_, f) = other_passed (hits_rise none ss ts) _ _ (λ z. omega arith) d in
+      let (_, f) = other_passed (hits_rise None ss ts) _ _ (λ z. omega arith) d in
       other_last (all_below len ts) _ (λ z. omega arith) f) c) in
       record {
         side_by_side = side_gives ss ts vs small even;
@@ -93,7 +93,7 @@ module _ (len : ℕ) (ss ts vs : List ℕ) where
         outside = o.outside;
       }
 
-  outside_from : VelocityOut ss ts vs → check_hits len ss ts vs ≡ refuse velocity_range
+  outside_from : VelocityOut ss ts vs → check_hits len ss ts vs ≡ Err velocity_range
   unfolding check_hits
   outside_from o =
       let s = o.side_by_side in

@@ -1,9 +1,9 @@
 -- Saving: its tests of the lists are the rules for hits; a bar within the rules is saved exactly where its id is free and there is room.
 -- Assumes nothing.
+use Rattle.std.specs.Prelude.{None, Ok, Option, Some}
 use mathlib.Core.Path.{◌≡◌, refl, sym, ◌∙◌}
 use mathlib.Core.Bool.{Bool, true, not, ◌&&◌}
 use mathlib.Core.List.{List, [], ◌∷◌}
-use mathlib.Core.Option.{Option, none, some}
 use Prim.Native.Nat.{ℕ, ◌+◌, ◌≤◌, ◌<◌}
 use native.Mathlib.Omega.{arith}
 use lib.Dec.{ltb, leb, eqb}
@@ -12,13 +12,12 @@ use borrow.Author.Tests.{ltb-true, leb-true, eqb-true, lt-ltb, le-leb, eq-eqb}
 use Rattle.common.proofs.Loops.{true_false, and_left, and_right}
 use Rattle.common.specs.Lists.{paired}
 use Rattle.common.proofs.Pairs.{paired_count}
-use Rattle.segment.specs.Results.{ok}
 use Rattle.segment.proofs.Binds.{bind_gives, ok_same}
 use Rattle.segment.proofs.Accepted.{check_gives}
 use Rattle.segment.proofs.Inversions.{last_gives}
-use Rattle.pad_map.specs.Bars.{Bar, Key, hit, key, with_velocity, bar, hits_in, lookup, insert, hits_in_all}
-use Rattle.pad_map.specs.Rules.{comes_after, velocity_fits, hit_fine, hits_fine}
-use Rattle.pad_map.specs.Rules.{all_up_to, all_audible, hits_rise, all_below, check_hits}
+use Rattle.pad_map.specs.declared.Key.{Key}
+use Rattle.pad_map.specs.Bars.{Bar, hit, key, with_velocity, bar, hits_in, lookup, insert, hits_in_all}
+use Rattle.pad_map.specs.Rules.{comes_after, velocity_fits, hit_fine, hits_fine, all_up_to, all_audible, hits_rise, all_below, check_hits}
 use Rattle.pad_map.specs.Acts.{is_some, save}
 use Rattle.pad_map.specs.Claims.{SideBySide, ListsWell, CheckExactly, SavesExactly}
 use Rattle.pad_map.proofs.Ordered.{fine_exactly}
@@ -40,14 +39,14 @@ lists_fine len previous (s ∷ ss) (t ∷ ts) [] p = refl
 lists_fine len previous (s ∷ ss) (t ∷ ts) (v ∷ vs) p =
     let low = and_left (leb s 127) (all_up_to 127 ss) p.sounds in
     let audible = and_left (velocity_fits v) (all_audible vs) p.velocities in
-    let after = and_left (comes_after previous (key s t)) (hits_rise (some (key s t)) ss ts) p.rising in
+    let after = and_left (comes_after previous (key s t)) (hits_rise (Some (key s t)) ss ts) p.rising in
     let below = and_left (ltb t len) (all_below len ts) p.steps in
     rw (low, audible, after, below)
-    (lists_fine len (some (key s t)) ss ts vs
+    (lists_fine len (Some (key s t)) ss ts vs
     (record {
       sounds = and_right (leb s 127) (all_up_to 127 ss) p.sounds;
       velocities = and_right (velocity_fits v) (all_audible vs) p.velocities;
-      rising = and_right (comes_after previous (key s t)) (hits_rise (some (key s t)) ss ts) p.rising;
+      rising = and_right (comes_after previous (key s t)) (hits_rise (Some (key s t)) ss ts) p.rising;
       steps = and_right (ltb t len) (all_below len ts) p.steps;
     }))
 
@@ -62,9 +61,9 @@ fine_lists len previous (s ∷ ss) [] vs l m e = absurd (omega arith)
 fine_lists len previous (s ∷ ss) (t ∷ ts) [] l m e = absurd (omega arith)
 fine_lists len previous (s ∷ ss) (t ∷ ts) (v ∷ vs) l m e =
     let k = key s t in
-    let others = hits_fine len (some k) (hits_in ss ts vs) in
+    let others = hits_fine len (Some k) (hits_in ss ts vs) in
     let here = and_left (hit_fine len previous (hit s t v)) others e in
-    let later = fine_lists len (some k) ss ts vs (omega arith) (omega arith) (and_right (hit_fine len previous (hit s t v)) others e) in
+    let later = fine_lists len (Some k) ss ts vs (omega arith) (omega arith) (and_right (hit_fine len previous (hit s t v)) others e) in
     let low = and_left (leb s 127) (velocity_fits v && (comes_after previous k && ltb t len)) here in
     let rest = and_right (leb s 127) (velocity_fits v && (comes_after previous k && ltb t len)) here in
     let audible = and_left (velocity_fits v) (comes_after previous k && ltb t len) rest in
@@ -113,27 +112,27 @@ module _ (ss ts vs : List ℕ) where
   even_from w = rw (eq-eqb (length ss) (length ts) w.as_many_steps, eq-eqb (length ss) (length vs) w.as_many_velocities)
 
 module _ (len : ℕ) (ss ts vs : List ℕ) where
-  checked_gives : check_hits len ss ts vs ≡ ok tt → ListsWell len ss ts vs
+  checked_gives : check_hits len ss ts vs ≡ Ok tt → ListsWell len ss ts vs
   unfolding check_hits
   checked_gives e =
       let (small, a) = check_gives (small_test ss ts vs) _ _ e in
       let (even, b) = check_gives (even_test ss ts vs) _ _ a in
       let (low, c) = check_gives (all_up_to 127 ss) _ _ b in
       let (audible, d) = check_gives (all_audible vs) _ _ c in
-      let (rise, f) = check_gives (hits_rise none ss ts) _ _ d in
+      let (rise, f) = check_gives (hits_rise None ss ts) _ _ d in
       record {
         side_by_side = side_gives ss ts vs small even;
         fine =
             (fine_exactly len (hits_in ss ts vs)).0
-            (lists_fine len none ss ts vs
+            (lists_fine len None ss ts vs
             (record { sounds = low; velocities = audible; rising = rise; steps = last_gives (all_below len ts) _ f }));
       }
 
-  checked_from : ListsWell len ss ts vs → check_hits len ss ts vs ≡ ok tt
+  checked_from : ListsWell len ss ts vs → check_hits len ss ts vs ≡ Ok tt
   unfolding check_hits
   checked_from w =
       let l = w.side_by_side in
-      let p = fine_lists len none ss ts vs l.as_many_steps l.as_many_velocities ((fine_exactly len (hits_in ss ts vs)).1 w.fine) in
+      let p = fine_lists len None ss ts vs l.as_many_steps l.as_many_velocities ((fine_exactly len (hits_in ss ts vs)).1 w.fine) in
       rw (small_from ss ts vs l, even_from ss ts vs l, p.sounds, p.velocities, p.rising, p.steps)
 
 pub check_exactly : CheckExactly
@@ -141,20 +140,20 @@ check_exactly len ss ts vs = (checked_gives len ss ts vs, checked_from len ss ts
 
 -- ---- saving
 
-pub absent : (o : Option Bar) → not (is_some o) ≡ true → o ≡ none
-absent none e = refl
-absent (some b) e = true_false (sym e)
+pub absent : (o : Option Bar) → not (is_some o) ≡ true → o ≡ None
+absent None e = refl
+absent (Some b) e = true_false (sym e)
 
 -- what a save that was accepted says
 pub record Accepted (bars : List Bar) (id len : ℕ) (ss ts vs : List ℕ) (after : List Bar) : Type 0 where
-  pub free : lookup bars id ≡ none
+  pub free : lookup bars id ≡ None
   pub lists : ListsWell len ss ts vs
   pub few_bars : length bars < 256
   pub few_hits : hits_in_all bars + length ss ≤ 8192
   pub is : after ≡ insert (bar id len (hits_in ss ts vs)) bars
 
 module _ (bars : List Bar) (id len : ℕ) (ss ts vs : List ℕ) where
-  pub save_gives : (after : List Bar) → save bars id len ss ts vs ≡ ok after → Accepted bars id len ss ts vs after
+  pub save_gives : (after : List Bar) → save bars id len ss ts vs ≡ Ok after → Accepted bars id len ss ts vs after
   unfolding save
   save_gives after e =
       let (none_held, a) = check_gives (not (is_some (lookup bars id))) _ _ e in
@@ -168,8 +167,8 @@ module _ (bars : List Bar) (id len : ℕ) (ss ts vs : List ℕ) where
         is = sym (ok_same c);
       }
 
-  save_from : ListsWell len ss ts vs → lookup bars id ≡ none → length bars < 256 → hits_in_all bars + length ss ≤ 8192
-      → save bars id len ss ts vs ≡ ok (insert (bar id len (hits_in ss ts vs)) bars)
+  save_from : ListsWell len ss ts vs → lookup bars id ≡ None → length bars < 256 → hits_in_all bars + length ss ≤ 8192
+      → save bars id len ss ts vs ≡ Ok (insert (bar id len (hits_in ss ts vs)) bars)
   unfolding save
   save_from w f m h =
       rw (f, checked_from len ss ts vs w, lt-ltb (length bars) 256 m, le-leb (hits_in_all bars + length ss) 8192 h)

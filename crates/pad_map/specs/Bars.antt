@@ -1,7 +1,7 @@
 -- What a pad holds: a map from id to bar (document 02: at most 256 bars and 8,192 hits in all).
-use Rattle.std.specs.Prelude.{ℕ, ◌+◌, cond, List, [], ◌∷◌, ltb, eqb, length}
-use Rattle.std.proofs.Math.Option.{Option, none, some}
+use Rattle.std.specs.Prelude.{None, Option, Some, ℕ, ◌+◌, cond, List, [], ◌∷◌, ltb, eqb, length}
 use Rattle.common.specs.Lists.{paired}
+use Rattle.pad_map.specs.declared.Key.{Key}
 
 -- A hit: a sound number, a step and a velocity
 pub record Hit : Type 0 where
@@ -13,10 +13,6 @@ abbrev pub hit : (sound step velocity : ℕ) → Hit
 hit s t v = record { sound = s; step = t; velocity = v }
 
 -- Where a hit stands in its bar, whatever its velocity: by sound, then step
-pub record Key : Type 0 where
-  pub sound : ℕ
-  pub step : ℕ
-
 abbrev pub key : (sound step : ℕ) → Key
 key s t = record { sound = s; step = t }
 
@@ -43,8 +39,8 @@ hits_in sounds steps velocities = paired with_velocity (paired key sounds steps)
 
 -- the bar under an id
 unfoldable pub lookup : List Bar → (id : ℕ) → Option Bar
-lookup [] id = none
-lookup (b ∷ bs) id = let later = lookup bs id in cond (eqb b.id id) (some b) later
+lookup [] id = None
+lookup (b ∷ bs) id = let later = lookup bs id in cond (eqb b.id id) (Some b) later
 
 -- a bar added under an id that is not held, at its place by rising id
 unfoldable pub insert : Bar → List Bar → List Bar

@@ -1,9 +1,7 @@
 -- What is claimed of the map; proved in proofs/.
-use Rattle.std.specs.Prelude.{ℕ, suc, ◌+◌, ◌≤◌, ◌<◌, ◌≡◌, true, cond, List, [], ◌∷◌, map, ◌↔◌, ◌⊎◌, eqb, length}
-use Rattle.std.proofs.Math.Option.{none, some}
+use Rattle.std.specs.Prelude.{Err, None, Ok, Some, ℕ, suc, ◌+◌, ◌≤◌, ◌<◌, ◌≡◌, true, cond, List, [], ◌∷◌, map, ◌↔◌, ◌⊎◌, eqb, length}
 use Rattle.common.specs.Elements.{◌∈◌, Rising}
 use Rattle.segment.specs.Refusals.{pad_full, velocity_range}
-use Rattle.segment.specs.Results.{ok, refuse}
 use Rattle.pad_map.specs.Bars.{Hit, Bar, key_of, hits_in, lookup, insert, without, hits_in_all}
 use Rattle.pad_map.specs.Rules.{ComesBefore, VelocityFits, HitsFine, before, hits_fine, check_hits}
 use Rattle.pad_map.specs.Acts.{save, write_out}
@@ -14,7 +12,7 @@ abbrev pub OrderExactly : Type 0
 OrderExactly = (a b : Hit) → (before (key_of a) (key_of b) ≡ true) ↔ ComesBefore a b
 
 abbrev pub FineExactly : Type 0
-FineExactly = (len : ℕ) (hits : List Hit) → (hits_fine len none hits ≡ true) ↔ HitsFine len hits
+FineExactly = (len : ℕ) (hits : List Hit) → (hits_fine len None hits ≡ true) ↔ HitsFine len hits
 
 -- the three lists are not too long, and equally long
 pub record SideBySide (sounds steps velocities : List ℕ) : Type 0 where
@@ -29,7 +27,7 @@ pub record ListsWell (len : ℕ) (sounds steps velocities : List ℕ) : Type 0 w
 
 abbrev pub CheckExactly : Type 0
 CheckExactly = (len : ℕ) (sounds steps velocities : List ℕ)
-    → (check_hits len sounds steps velocities ≡ ok tt) ↔ ListsWell len sounds steps velocities
+    → (check_hits len sounds steps velocities ≡ Ok tt) ↔ ListsWell len sounds steps velocities
 
 -- 22 is answered exactly where the lists are side by side, every sound is at most 127 and some velocity is outside its range, whatever the
 -- order of the hits and their steps
@@ -42,16 +40,16 @@ pub record VelocityOut (sounds steps velocities : List ℕ) : Type 0 where
 
 abbrev pub VelocityExactly : Type 0
 VelocityExactly = (len : ℕ) (sounds steps velocities : List ℕ)
-    → (check_hits len sounds steps velocities ≡ refuse velocity_range) ↔ VelocityOut sounds steps velocities
+    → (check_hits len sounds steps velocities ≡ Err velocity_range) ↔ VelocityOut sounds steps velocities
 
 -- ---- the list of bars is a map: a bar that was added is found under its id, one that was taken out is not, every other id is as before
 
 abbrev pub Added : Type 0
-Added = (bars : List Bar) (b : Bar) (id : ℕ) → lookup bars b.id ≡ none
-    → lookup (insert b bars) id ≡ cond (eqb b.id id) (some b) (lookup bars id)
+Added = (bars : List Bar) (b : Bar) (id : ℕ) → lookup bars b.id ≡ None
+    → lookup (insert b bars) id ≡ cond (eqb b.id id) (Some b) (lookup bars id)
 
 abbrev pub TakenOut : Type 0
-TakenOut = (bars : List Bar) (gone id : ℕ) → lookup (without gone bars) id ≡ cond (eqb gone id) none (lookup bars id)
+TakenOut = (bars : List Bar) (gone id : ℕ) → lookup (without gone bars) id ≡ cond (eqb gone id) None (lookup bars id)
 
 -- ids go on rising
 
@@ -59,7 +57,7 @@ abbrev pub ids : List Bar → List ℕ
 ids bars = map (λ b. b.id) bars
 
 abbrev pub AddedRises : Type 0
-AddedRises = (bars : List Bar) (b : Bar) → lookup bars b.id ≡ none → Rising (ids bars) → Rising (ids (insert b bars))
+AddedRises = (bars : List Bar) (b : Bar) → lookup bars b.id ≡ None → Rising (ids bars) → Rising (ids (insert b bars))
 
 abbrev pub TakenOutRises : Type 0
 TakenOutRises = (bars : List Bar) (id : ℕ) → Rising (ids bars) → Rising (ids (without id bars))
@@ -68,19 +66,19 @@ TakenOutRises = (bars : List Bar) (id : ℕ) → Rising (ids bars) → Rising (i
 
 abbrev pub SavesExactly : Type 0
 SavesExactly = (bars : List Bar) (id len : ℕ) (sounds steps velocities : List ℕ) → ListsWell len sounds steps velocities
-    → ((after : List Bar) × (save bars id len sounds steps velocities ≡ ok after))
-    ↔ ((lookup bars id ≡ none) × (length bars < 256) × (hits_in_all bars + length sounds ≤ 8192))
+    → ((after : List Bar) × (save bars id len sounds steps velocities ≡ Ok after))
+    ↔ ((lookup bars id ≡ None) × (length bars < 256) × (hits_in_all bars + length sounds ≤ 8192))
 
 -- 19 is answered exactly where all other tests pass and the numbers of bars and hits held do not allow the bar
 abbrev pub FullExactly : Type 0
 FullExactly = (bars : List Bar) (id len : ℕ) (sounds steps velocities : List ℕ)
-    → (save bars id len sounds steps velocities ≡ refuse pad_full)
-    ↔ ((lookup bars id ≡ none) × ListsWell len sounds steps velocities
+    → (save bars id len sounds steps velocities ≡ Err pad_full)
+    ↔ ((lookup bars id ≡ None) × ListsWell len sounds steps velocities
     × ((256 ≤ length bars) ⊎ (8192 < hits_in_all bars + length sounds)))
 
 -- the room of an erased bar serves the next: one bar less, and its hits less
 abbrev pub RoomGivenBack : Type 0
-RoomGivenBack = (bars : List Bar) (id : ℕ) (b : Bar) → Rising (ids bars) → lookup bars id ≡ some b
+RoomGivenBack = (bars : List Bar) (id : ℕ) (b : Bar) → Rising (ids bars) → lookup bars id ≡ Some b
     → (suc (length (without id bars)) ≡ length bars) × (length b.hits + hits_in_all (without id bars) ≡ hits_in_all bars)
 
 -- ---- of each hit what is written depends on sound and step only

@@ -21,8 +21,8 @@ module _ (f : Hit → ℕ) (ws : List ℕ) (from count : ℕ) (entry : List ℕ)
   many = length-map (hits_of count (drop from ws)) f ∙ hits_many count (drop from ws)
 
   module _ (room : count ≤ length entry) where
-    pub fill_start : Filling from 0 entry
-    fill_start = front_start (ap (λ (n : ℕ). map f (hits_of n (drop from ws))) (sub-zero count)) (omega (arith, many))
+    pub fill_start : (at : ℕ) → at ≡ from → Filling at 0 entry
+    fill_start at e = rw e (front_start (ap (λ (n : ℕ). map f (hits_of n (drop from ws))) (sub-zero count)) (omega (arith, many)))
 
   module _ (at i : ℕ) (out : List ℕ) (t : Filling at i out) where
     pub fill_next : (v : ℕ) → i < count → f (hit_at (get_or ws at 0) (get_or ws (at + 1) 0)) ≡ v → Filling (at + 2) (i + 1) (set out i v)

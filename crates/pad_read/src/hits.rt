@@ -7,8 +7,5 @@ ghost use Rattle.pad_read.specs.Counter.{pad_hits};
 pub fn pad_hits(pad: &[u32]) -> u32
     ensures { result ≡ pad_hits pad.now }
 {
-    if pad.len() < 2 {
-        return 0;
-    }
-    pad[1]
+    pad.get(1).copied().unwrap_or(0)
 }

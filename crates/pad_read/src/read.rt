@@ -7,8 +7,8 @@ ghost use Rattle.pad_read.specs.Steps.{low_byte, Fillable, HitsFilled};
 use common::widths::long;
 use pad_words::check::is_whole;
 use pad_words::layout::VELOCITY_UNIT;
-use pad_words::place::{Place, place_of};
-use segment::refusal::{broken_pad, no_room, unknown_bar};
+use pad_words::place::place_of;
+use segment::refusal::Refusal;
 use segment::replies::BarRead;
 
 // The low byte: of a hit's first word its sound, of that word / 256 its velocity, which is at most 127 where the words are a pad.
@@ -31,15 +31,12 @@ fn fill_hits(
     ensures { HitsFilled (hits_of count (drop from pad.now)) sounds.old steps.old velocities.old
         sounds.new steps.new velocities.new }
 {
-    let mut at = from;
-    let mut i: usize = 0;
-    while i < count {
+    for i in 0..count {
+        let at = from + 2 * i;
         let word = pad[at];
         sounds[i] = narrow(word);
         steps[i] = pad[at + 1];
         velocities[i] = narrow(word / VELOCITY_UNIT);
-        at += 2;
-        i += 1;
     }
 }
 
@@ -51,27 +48,27 @@ pub fn pad_read(
     sounds: &mut [u8],
     steps: &mut [u32],
     velocities: &mut [u8],
-) -> BarRead
+) -> Result<BarRead, Refusal>
     ensures { BarReadBack pad.now id sounds.old steps.old velocities.old
         result sounds.new steps.new velocities.new }
 {
     if !is_whole(pad) {
-        return BarRead::Refused(broken_pad());
+        return Err(Refusal::BrokenPad);
     }
-    let Place::Held(at) = place_of(pad, id) else {
-        return BarRead::Refused(unknown_bar());
+    let Ok(at) = place_of(pad, id) else {
+        return Err(Refusal::UnknownBar);
     };
     let len = pad[at + 1];
     let count = long(pad[at + 2]);
     if sounds.len() < count {
-        return BarRead::Refused(no_room(1, count));
+        return Err(Refusal::NoRoom(1, count));
     }
     if steps.len() < count {
-        return BarRead::Refused(no_room(2, count));
+        return Err(Refusal::NoRoom(2, count));
     }
     if velocities.len() < count {
-        return BarRead::Refused(no_room(3, count));
+        return Err(Refusal::NoRoom(3, count));
     }
     fill_hits(pad, at + 3, count, sounds, steps, velocities);
-    BarRead::Bar(count, len)
+    Ok(BarRead { hits: count, len })
 }

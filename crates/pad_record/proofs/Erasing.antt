@@ -1,18 +1,16 @@
 -- A bar taken out of the words: what is left is the words of the other bars.
 -- Assumes nothing.
+use Rattle.std.specs.Prelude.{Err, None, Ok, Some}
 use mathlib.Core.Path.{◌≡◌, sym, ap, ◌∙◌}
 use mathlib.Core.Bool.{true, false}
 use mathlib.Core.List.{List, [], ◌∷◌, ◌++◌, append_assoc}
-use mathlib.Core.Option.{none, some}
 use Prim.Native.Nat.{ℕ, suc, ◌+◌, ◌-◌, ◌*◌, ◌≤◌}
 use native.Mathlib.Omega.{arith}
 use lib.ListN.{length, take, drop, get_or, set, length-append}
 use lib.Seq.{sets, sets-eq, take_at, drop_at}
 use Rattle.segment.specs.Refusals.{broken_pad, unknown_bar}
-use Rattle.segment.specs.Results.{ok, refuse}
 use Rattle.segment.specs.Records.{between}
 use Rattle.pad_map.specs.Bars.{Bar, without, hits_in_all}
-use Rattle.pad_words.specs.declared.place.Place.TheVariants.{Held, Free}
 use Rattle.pad_words.specs.Words.{pad_words, size, bar_words, held, stored}
 use Rattle.pad_words.specs.Whole.{whole}
 use Rattle.pad_words.specs.Calls.{held_bars, pad_erase}
@@ -51,13 +49,13 @@ module _ (c t : ℕ) (X B Y R pad : List ℕ) (is : pad ≡ c ∷ (t ∷ (X ++ (
 
 -- ---- a bar that is held
 
-module _ (pad : List ℕ) (id : ℕ) (w : whole pad ≡ true) {p : ℕ} (q : place_from 2 (held pad) id ≡ Held p) where
+module _ (pad : List ℕ) (id : ℕ) (w : whole pad ≡ true) {p : ℕ} (q : place_from 2 (held pad) id ≡ Ok p) where
   split : HeldSplit 2 (held pad) id p
-  split = held_split 2 none (get_or pad 1 0) (held pad) id (whole_parts pad w).fine q
+  split = held_split 2 None (get_or pad 1 0) (held pad) id (whole_parts pad w).fine q
 
   same_one : split.one ≡ bar_at pad p
   same_one =
-      let e : some split.one ≡ some (bar_at pad p) = sym split.look ∙ looked pad id w q in
+      let e : Some split.one ≡ Some (bar_at pad p) = sym split.look ∙ looked pad id w q in
       cc
 
   n_is : length split.one.hits ≡ get_or pad (p + 2) 0
@@ -141,17 +139,17 @@ module _ (pad : List ℕ) (id : ℕ) (w : whole pad ≡ true) {p : ℕ} (q : pla
       ∙ ap (λ (k : ℕ). set (set (sets pad p (between (p + (3 + 2 * n)) end pad)) 0 (get_or pad 0 0 - 1)) 1 (get_or pad 1 0 - k)) (sym e)
       ∙ erase_left n end e f
 
-  pub erase_fine : pad_erase pad id ≡ ok (bar_at pad p)
+  pub erase_fine : pad_erase pad id ≡ Ok (bar_at pad p)
   unfolding pad_erase held_bars
   erase_fine = rw (w, looked pad id w q)
 
 -- ---- refusals
 
 module _ (pad : List ℕ) (id : ℕ) where
-  pub erase_broken : whole pad ≡ false → pad_erase pad id ≡ refuse broken_pad
+  pub erase_broken : whole pad ≡ false → pad_erase pad id ≡ Err broken_pad
   unfolding pad_erase held_bars
   erase_broken e = rw e
 
-  pub erase_unknown : {p : ℕ} → whole pad ≡ true → place_from 2 (held pad) id ≡ Free p → pad_erase pad id ≡ refuse unknown_bar
+  pub erase_unknown : {p : ℕ} → whole pad ≡ true → place_from 2 (held pad) id ≡ Err p → pad_erase pad id ≡ Err unknown_bar
   unfolding pad_erase held_bars
   erase_unknown w q = rw (w, not_held pad id w q)

@@ -1,73 +1,24 @@
--- Words moved and stored, one at a time.
+-- Words moved and stored.
 -- Assumes nothing.
-use mathlib.Core.Path.{◌≡◌, refl, sym, ap, ◌∙◌}
-use mathlib.Core.List.{List, [], ◌∷◌}
+use mathlib.Core.Path.{◌≡◌, sym, ap, ◌∙◌}
+use mathlib.Core.List.{List, ◌∷◌}
 use Prim.Native.Nat.{ℕ, suc, ◌+◌, ◌-◌, ◌*◌, ◌≤◌, ◌<◌}
-use native.Mathlib.Numerals.{add-one}
 use native.Mathlib.Omega.{arith}
-use lib.ListN.{length, drop, get_or, set, length-set}
-use lib.Seq.{sets, length-sets, set_comm, get_or-set_other, get_or-drop, drop-drop, drop-set-lt}
-use Rattle.common.proofs.Loops.{left_suc, left_none, drop_step, drop_end}
+use lib.ListN.{length, drop, get_or, set, length-set, length-drop}
+use lib.Seq.{sets, sets-eq, length-sets, length-take-le}
+use Rattle.std.specs.List.{copy_within}
+use Rattle.common.proofs.Loops.{drop_step, drop_end}
 use Rattle.segment.specs.Records.{between}
 use Rattle.pad_map.specs.Bars.{hits_in}
 use Rattle.pad_words.specs.Words.{hit_words}
 use Rattle.pad_record.specs.Steps.{Put, words_of, BarPut}
 
-module _ (l : List ℕ) (from to : ℕ) where
-  pub between_cons : from < to → to ≤ length l → between from to l ≡ get_or l from 0 ∷ between (from + 1) to l
-  between_cons h k = rw (left_suc to from h, drop_step l from 0 (omega arith))
-
-  pub between_none : to ≤ from → between from to l ≡ []
-  between_none h = rw (left_none to from h)
-
--- ---- stores of a run, and places in front of it
-
-pub set_sets : (l : List ℕ) (n : ℕ) (vs : List ℕ) (k v : ℕ) → k < n → set (sets l n vs) k v ≡ sets (set l k v) n vs
-set_sets l n [] k v h = refl
-set_sets l n (x ∷ vs) k v h =
-    set_sets (set l n x) (suc n) vs k v (omega arith)
-    ∙ ap (λ (m : List ℕ). sets m (suc n) vs) (set_comm l n k x v (λ e. omega arith))
-
-pub get_d_sets : (l : List ℕ) (n : ℕ) (vs : List ℕ) (k : ℕ) → k < n → get_or (sets l n vs) k 0 ≡ get_or l k 0
-get_d_sets l n [] k h = refl
-get_d_sets l n (x ∷ vs) k h =
-    get_d_sets (set l n x) (suc n) vs k (omega arith) ∙ get_or-set_other l n k x 0 (λ e. omega arith)
-
--- ---- moved down
-
-module _ (pad₀ pad : List ℕ) (next i to : ℕ) (same : drop next pad ≡ drop next pad₀) where
-  down_value : next ≤ i → get_or pad i 0 ≡ get_or pad₀ i 0
-  down_value h =
-      let e : next + (i - next) ≡ i = omega arith in
-      ap (λ (k : ℕ). get_or pad k 0) (sym e) ∙ sym (get_or-drop next pad (i - next) 0)
-      ∙ ap (λ (l : List ℕ). get_or l (i - next) 0) same ∙ get_or-drop next pad₀ (i - next) 0 ∙ ap (λ (k : ℕ). get_or pad₀ k 0) e
-
-  pub down_next : {all : List ℕ} → sets pad next (between i to pad₀) ≡ all → next ≤ i → i < to → to ≤ length pad₀
-      → sets (set pad next (get_or pad i 0)) (next + 1) (between (i + 1) to pad₀) ≡ all
-  down_next inv h k m =
-      ap (λ (n : ℕ). sets (set pad next (get_or pad i 0)) n (between (i + 1) to pad₀)) (add-one next)
-      ∙ rw (down_value h) (rw (between_cons pad₀ i to k m) at inv)
-
-  pub down_same : (v : ℕ) → drop (next + 1) (set pad next v) ≡ drop (next + 1) pad₀
-  down_same v =
-      drop-set-lt (next + 1) pad next v (omega arith)
-      ∙ sym (drop-drop 1 next pad) ∙ ap (λ (l : List ℕ). drop 1 l) same ∙ drop-drop 1 next pad₀
-
--- ---- moved up
-
-pub up_next : (pad₀ pad : List ℕ) (i to by : ℕ) → pad ≡ sets pad₀ (i + by) (between i to pad₀) → 0 < i → i ≤ to → to + by ≤ length pad₀
-    → set pad (i - 1 + by) (get_or pad (i - 1) 0) ≡ sets pad₀ (i - 1 + by) (between (i - 1) to pad₀)
-up_next pad₀ pad i to by inv h k m =
-    let one : i - 1 + 1 ≡ i = omega arith in
-    let next : i + by ≡ suc (i - 1 + by) = omega arith in
-    let e : between (i - 1) to pad₀ ≡ get_or pad₀ (i - 1) 0 ∷ between i to pad₀ =
-    between_cons pad₀ (i - 1) to (omega arith) (omega arith) ∙ ap (λ (n : ℕ). get_or pad₀ (i - 1) 0 ∷ between n to pad₀) one in
-    let v : get_or pad (i - 1) 0 ≡ get_or pad₀ (i - 1) 0 =
-    ap (λ (l : List ℕ). get_or l (i - 1) 0) inv ∙ get_d_sets pad₀ (i + by) (between i to pad₀) (i - 1) (omega arith) in
-    rw (v, e)
-    (ap (λ (l : List ℕ). set l (i - 1 + by) (get_or pad₀ (i - 1) 0)) inv
-    ∙ set_sets pad₀ (i + by) (between i to pad₀) (i - 1 + by) (get_or pad₀ (i - 1) 0) (omega arith)
-    ∙ ap (λ (n : ℕ). sets (set pad₀ (i - 1 + by) (get_or pad₀ (i - 1) 0)) n (between i to pad₀)) next)
+-- words copied within the pad, where they fit
+pub copied : (l : List ℕ) (from to at : ℕ) → from ≤ to → to ≤ length l → at + (to - from) ≤ length l
+    → copy_within l from to at ≡ sets l at (between from to l)
+copied l from to at h k m =
+    let many : length (between from to l) ≡ to - from = length-take-le (to - from) (drop from l) (omega (arith, length-drop from l)) in
+    sym (sets-eq (between from to l) l at (omega (arith, many)) ∙ rw many)
 
 -- ---- hits stored
 

@@ -1,6 +1,7 @@
 -- The words of a map that fits a pad are a pad again, which holds that map; so are those after a save and after an erasure. What each call
 -- promises, from what its code knows.
 -- Assumes nothing.
+use Rattle.std.specs.Prelude.{Err, Ok}
 use mathlib.Core.Path.{◌≡◌, sym, ap, ◌∙◌}
 use mathlib.Core.Bool.{true}
 use mathlib.Core.List.{List}
@@ -10,8 +11,6 @@ use native.Mathlib.Omega.{arith}
 use lib.ListN.{length, drop, get_or}
 use Rattle.common.specs.Elements.{◌∈◌, Rising}
 use Rattle.segment.specs.declared.refusal.Refusal.{Refusal}
-use Rattle.segment.specs.declared.replies.Counted.TheVariants as counted
-use Rattle.segment.specs.Results.{ok, refuse}
 use Rattle.segment.proofs.Binds.{refuse_ok}
 use Rattle.pad_map.specs.Bars.{Bar, bar, hits_in, without, hits_in_all}
 use Rattle.pad_map.specs.Rules.{HitsFine}
@@ -56,13 +55,13 @@ whole_again bars pad l f =
       total = ap hits_in_all same;
     }
 
-holds_again : (bars : List Bar) (pad : List ℕ) → length pad ≡ pad_words → Fits bars → held_bars (stored bars pad) ≡ ok bars
+holds_again : (bars : List Bar) (pad : List ℕ) → length pad ≡ pad_words → Fits bars → held_bars (stored bars pad) ≡ Ok bars
 unfolding held_bars
 holds_again bars pad l f = rw ((whole_exactly (stored bars pad)).1 (whole_again bars pad l f), held_stored bars pad (low f))
 
 module _ (pad : List ℕ) (w : Whole pad) where
-  saved_holds : (id len : ℕ) (ss ts vs : List ℕ) (bars : List Bar) → save (held pad) id len ss ts vs ≡ ok bars
-      → held_bars (stored bars pad) ≡ ok bars
+  saved_holds : (id len : ℕ) (ss ts vs : List ℕ) (bars : List Bar) → save (held pad) id len ss ts vs ≡ Ok bars
+      → held_bars (stored bars pad) ≡ Ok bars
   saved_holds id len ss ts vs bars e =
       let a = save_gives (held pad) id len ss ts vs bars e in
       let b = bar id len (hits_in ss ts vs) in
@@ -82,7 +81,7 @@ module _ (pad : List ℕ) (w : Whole pad) where
       fine c f (inl y) = rw y f
       fine c f (inr k) = w.each c k
 
-  erased_holds : (id : ℕ) → held_bars (stored (without id (held pad)) pad) ≡ ok (without id (held pad))
+  erased_holds : (id : ℕ) → held_bars (stored (without id (held pad)) pad) ≡ Ok (without id (held pad))
   erased_holds id =
       let (m, n) = without_fewer id (held pad) in
       holds_again (without id (held pad)) pad w.words
@@ -96,11 +95,11 @@ module _ (pad : List ℕ) (w : Whole pad) where
 -- ---- erasing
 
 module _ (pad : List ℕ) (id : ℕ) where
-  pub not_erased : {x : Refusal} → pad_erase pad id ≡ refuse x → BarErased pad id (counted.Refused x) pad
+  pub not_erased : {x : Refusal} → pad_erase pad id ≡ Err x → BarErased pad id (Err x) pad
   not_erased e = record { reply = rw e; words = rw e; map = λ b k. refuse_ok (sym e ∙ k) }
 
-  pub was_erased : whole pad ≡ true → (p n : ℕ) (pad' : List ℕ) → n ≡ get_or pad (p + 2) 0 → pad_erase pad id ≡ ok (bar_at pad p)
-      → pad' ≡ stored (without id (held pad)) pad → BarErased pad id (counted.Count n) pad'
+  pub was_erased : whole pad ≡ true → (p n : ℕ) (pad' : List ℕ) → n ≡ get_or pad (p + 2) 0 → pad_erase pad id ≡ Ok (bar_at pad p)
+      → pad' ≡ stored (without id (held pad)) pad → BarErased pad id (Ok n) pad'
   was_erased w p n pad' is e l =
       let many = hits_many (get_or pad (p + 2) 0) (drop (p + 3) pad) in
       let again = erased_holds pad ((whole_exactly pad).0 w) id in
@@ -109,11 +108,11 @@ module _ (pad : List ℕ) (id : ℕ) where
 -- ---- saving
 
 module _ (pad : List ℕ) (id len : ℕ) (ss ts vs : List ℕ) where
-  pub not_saved : {x : Refusal} → pad_save pad id len ss ts vs ≡ refuse x → BarSaved pad id len ss ts vs (counted.Refused x) pad
+  pub not_saved : {x : Refusal} → pad_save pad id len ss ts vs ≡ Err x → BarSaved pad id len ss ts vs (Err x) pad
   not_saved e = record { reply = rw e; words = rw e; map = λ b k. refuse_ok (sym e ∙ k) }
 
-  pub was_saved : whole pad ≡ true → (bars : List Bar) (pad' : List ℕ) → pad_save pad id len ss ts vs ≡ ok bars → pad' ≡ stored bars pad
-      → BarSaved pad id len ss ts vs (counted.Count (length ss)) pad'
+  pub was_saved : whole pad ≡ true → (bars : List Bar) (pad' : List ℕ) → pad_save pad id len ss ts vs ≡ Ok bars → pad' ≡ stored bars pad
+      → BarSaved pad id len ss ts vs (Ok (length ss)) pad'
   was_saved w bars pad' e l =
       let again = saved_holds pad ((whole_exactly pad).0 w) id len ss ts vs bars (sym (save_is pad id len ss ts vs w) ∙ e) in
       record { reply = rw e; words = rw e l; map = λ b k. ap held_bars l ∙ again ∙ (sym e ∙ k) }

@@ -1,9 +1,9 @@
 -- A bar put into the words: what is left is the words with that bar.
 -- Assumes nothing.
+use Rattle.std.specs.Prelude.{Err, None, Ok}
 use mathlib.Core.Path.{◌≡◌, refl, sym, ap, ◌∙◌}
 use mathlib.Core.Bool.{true, false}
 use mathlib.Core.List.{List, [], ◌∷◌, ◌++◌, append_assoc, append-nil}
-use mathlib.Core.Option.{none}
 use Prim.Native.Nat.{ℕ, ◌+◌, ◌*◌, ◌≤◌, ◌<◌}
 use native.Mathlib.Omega.{arith}
 use lib.ListN.{length, take, drop, get_or, set, length-append}
@@ -11,14 +11,12 @@ use lib.Seq.{sets, sets-eq, take_at, drop_at, take-append-le, take-take, length-
 use borrow.Author.Tests.{lt-ltb, le-ltb, le-leb, lt-leb}
 use Rattle.segment.specs.declared.refusal.Refusal.{Refusal}
 use Rattle.segment.specs.Refusals.{broken_pad, already_held, pad_full}
-use Rattle.segment.specs.Results.{ok, refuse}
 use Rattle.segment.specs.Records.{between}
 use Rattle.pad_map.specs.Bars.{Bar, bar, hits_in, lookup, insert, hits_in_all}
 use Rattle.pad_map.specs.Rules.{check_hits}
 use Rattle.pad_map.specs.Acts.{save}
 use Rattle.pad_map.specs.Claims.{ListsWell}
 use Rattle.pad_map.proofs.Saved.{hits_count}
-use Rattle.pad_words.specs.declared.place.Place.TheVariants.{Held, Free}
 use Rattle.pad_words.specs.Words.{size, hit_words, bar_words, held, stored}
 use Rattle.pad_words.specs.Whole.{whole}
 use Rattle.pad_words.specs.Calls.{held_bars, pad_save}
@@ -66,7 +64,7 @@ unfolding bar_words
 one_bar b = refl
 
 module _ (pad : List ℕ) (id len : ℕ) (ss ts vs : List ℕ) where
-  pub save_broken : whole pad ≡ false → pad_save pad id len ss ts vs ≡ refuse broken_pad
+  pub save_broken : whole pad ≡ false → pad_save pad id len ss ts vs ≡ Err broken_pad
   unfolding pad_save held_bars
   save_broken e = rw e
 
@@ -75,32 +73,32 @@ module _ (pad : List ℕ) (id len : ℕ) (ss ts vs : List ℕ) where
     unfolding pad_save held_bars
     save_is = rw w
 
-    pub save_held : {p : ℕ} → place_from 2 (held pad) id ≡ Held p → pad_save pad id len ss ts vs ≡ refuse already_held
+    pub save_held : {p : ℕ} → place_from 2 (held pad) id ≡ Ok p → pad_save pad id len ss ts vs ≡ Err already_held
     unfolding save
     save_held q = save_is ∙ rw (looked pad id w q)
 
-    module _ {p : ℕ} (q : place_from 2 (held pad) id ≡ Free p) where
-      absent : lookup (held pad) id ≡ none
+    module _ {p : ℕ} (q : place_from 2 (held pad) id ≡ Err p) where
+      absent : lookup (held pad) id ≡ None
       absent = not_held pad id w q
 
-      pub save_lists : {x : Refusal} → check_hits len ss ts vs ≡ refuse x → pad_save pad id len ss ts vs ≡ refuse x
+      pub save_lists : {x : Refusal} → check_hits len ss ts vs ≡ Err x → pad_save pad id len ss ts vs ≡ Err x
       unfolding save
       save_lists e = save_is ∙ rw (absent, e)
 
-      module _ (e : check_hits len ss ts vs ≡ ok tt) where
-        pub save_bars : 256 ≤ get_or pad 0 0 → pad_save pad id len ss ts vs ≡ refuse pad_full
+      module _ (e : check_hits len ss ts vs ≡ Ok tt) where
+        pub save_bars : 256 ≤ get_or pad 0 0 → pad_save pad id len ss ts vs ≡ Err pad_full
         unfolding save
         save_bars h = save_is ∙ rw (absent, e, held_many pad, le-ltb (get_or pad 0 0) 256 h)
 
         module _ (h : get_or pad 0 0 < 256) where
-          pub save_hits : 8192 < get_or pad 1 0 + length ss → pad_save pad id len ss ts vs ≡ refuse pad_full
+          pub save_hits : 8192 < get_or pad 1 0 + length ss → pad_save pad id len ss ts vs ≡ Err pad_full
           unfolding save
           save_hits k =
               save_is
               ∙ rw (absent, e, held_many pad, total_is pad w, lt-ltb (get_or pad 0 0) 256 h, lt-leb (get_or pad 1 0 + length ss) 8192 k)
 
           pub save_fine : get_or pad 1 0 + length ss ≤ 8192
-              → pad_save pad id len ss ts vs ≡ ok (insert (bar id len (hits_in ss ts vs)) (held pad))
+              → pad_save pad id len ss ts vs ≡ Ok (insert (bar id len (hits_in ss ts vs)) (held pad))
           unfolding save
           save_fine k =
               save_is

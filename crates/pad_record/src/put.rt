@@ -4,14 +4,13 @@ ghost use Rattle.pad_map.specs.Bars.{hits_in};
 ghost use Rattle.pad_words.specs.Words.{hit_words};
 ghost use Rattle.pad_record.specs.Steps.{Put, HitsRoom, BarRoom, BarPut};
 
-use crate::moves::move_up;
 use pad_words::layout::VELOCITY_UNIT;
 
 // A hit's first word.
 fn first_word(sound: u8, velocity: u8) -> u32
     ensures { result ≡ sound + 256 * velocity }
 {
-    sound as u32 + VELOCITY_UNIT * velocity as u32
+    u32::from(sound) + VELOCITY_UNIT * u32::from(velocity)
 }
 
 // The hits from an offset on.
@@ -19,13 +18,10 @@ pub fn put_hits(pad: &mut [u32], at: usize, sounds: &[u8], steps: &[u32], veloci
     requires { HitsRoom pad.old at sounds.now steps.now velocities.now }
     ensures { Put (hit_words (hits_in sounds.now steps.now velocities.now)) at pad.old pad.new }
 {
-    let mut next = at;
-    let mut i: usize = 0;
-    while i < sounds.len() {
+    for i in 0..sounds.len() {
+        let next = at + 2 * i;
         pad[next] = first_word(sounds[i], velocities[i]);
         pad[next + 1] = steps[i];
-        next += 2;
-        i += 1;
     }
 }
 
@@ -44,7 +40,7 @@ pub fn put_bar(
     ensures { BarPut pad.old at end id len sounds.now steps.now velocities.now pad.new }
 {
     let count = sounds.len();
-    move_up(pad, at, end, 3 + 2 * count);
+    pad.copy_within(at..end, at + (3 + 2 * count));
     pad[at] = id;
     pad[at + 1] = len;
     pad[at + 2] = count as u32;

@@ -1,16 +1,11 @@
 // The tests of the lists handed to saving, each over all hits before the next.
-ghost use Rattle.std.specs.Prelude.{◌≡◌, length};
-ghost use Rattle.std.proofs.Math.Option.{none};
+ghost use Rattle.std.specs.Prelude.{None, ◌≡◌, length};
 ghost use Rattle.segment.specs.Steps.{checked};
 ghost use Rattle.pad_map.specs.Rules.{all_up_to, all_audible, hits_rise, all_below, check_hits};
 
 use crate::order::follows;
-use common::widths::byte;
-use segment::checked::Checked;
-use segment::refusal::{
-    LIMIT, POSITIONS_NOT_INCREASING, WRITTEN_POSITION_EXCEEDS_LENGTH, invalid_layout, list_shape,
-    too_large, velocity_range,
-};
+use pad_map::Key;
+use segment::refusal::{LIMIT, Reason, Refusal};
 
 // The highest sound.
 pub const HIGHEST_SOUND: u8 = 127;
@@ -24,50 +19,33 @@ pub const HIGHEST_VELOCITY: u8 = 127;
 fn is_up_to(xs: &[u8], high: u8) -> bool
     ensures { result ≡ all_up_to high xs.now }
 {
-    let mut i: usize = 0;
-    while i < xs.len() {
-        if high < xs[i] {
-            return false;
-        }
-        i += 1;
-    }
-    true
+    xs.iter().all(|x| *x <= high)
 }
 
 // Whether every velocity is from 1 to 127.
 fn is_audible(velocities: &[u8]) -> bool
     ensures { result ≡ all_audible velocities.now }
 {
-    let mut i: usize = 0;
-    while i < velocities.len() {
-        if velocities[i] < LOWEST_VELOCITY {
-            return false;
-        }
-        if HIGHEST_VELOCITY < velocities[i] {
-            return false;
-        }
-        i += 1;
-    }
-    true
+    velocities
+        .iter()
+        .all(|v| LOWEST_VELOCITY <= *v && *v <= HIGHEST_VELOCITY)
 }
 
 // Whether hits rise strictly by sound, then step.
 fn is_rising(sounds: &[u8], steps: &[u32]) -> bool
     requires { length sounds.now ≡ length steps.now }
-    ensures { result ≡ hits_rise none sounds.now steps.now }
+    ensures { result ≡ hits_rise None sounds.now steps.now }
 {
-    let mut sound_before: u32 = 0;
-    let mut step_before: u32 = 0;
-    let mut i: usize = 0;
-    while i < sounds.len() {
-        let sound = byte(sounds[i]);
-        let step = steps[i];
-        if !follows(i == 0, sound_before, step_before, sound, step) {
+    let mut previous = None;
+    for (i, sound) in sounds.iter().enumerate() {
+        let hit = Key {
+            sound: u32::from(*sound),
+            step: steps[i],
+        };
+        if !follows(previous, hit) {
             return false;
         }
-        sound_before = sound;
-        step_before = step;
-        i += 1;
+        previous = Some(hit);
     }
     true
 }
@@ -76,46 +54,35 @@ fn is_rising(sounds: &[u8], steps: &[u32]) -> bool
 fn is_below(steps: &[u32], len: u32) -> bool
     ensures { result ≡ all_below len steps.now }
 {
-    let mut i: usize = 0;
-    while i < steps.len() {
-        if len <= steps[i] {
-            return false;
-        }
-        i += 1;
-    }
-    true
+    steps.iter().all(|step| *step < len)
 }
 
 // Kinds 12, 11, 12 for a sound above 127, 22 for a velocity outside 1 to 127, 6 for the order, 6 for a step that is not below the length.
-pub fn check_hits_of(len: u32, sounds: &[u8], steps: &[u32], velocities: &[u8]) -> Checked
+pub fn check_hits_of(
+    len: u32,
+    sounds: &[u8],
+    steps: &[u32],
+    velocities: &[u8],
+) -> Result<(), Refusal>
     ensures { result ≡ checked (check_hits len sounds.now steps.now velocities.now) }
 {
-    if LIMIT < sounds.len() {
-        return Checked::Refused(too_large());
+    if sounds.len().max(steps.len()).max(velocities.len()) > LIMIT {
+        return Err(Refusal::TooLarge);
     }
-    if LIMIT < steps.len() {
-        return Checked::Refused(too_large());
-    }
-    if LIMIT < velocities.len() {
-        return Checked::Refused(too_large());
-    }
-    if sounds.len() != steps.len() {
-        return Checked::Refused(list_shape());
-    }
-    if sounds.len() != velocities.len() {
-        return Checked::Refused(list_shape());
+    if sounds.len() != steps.len() || sounds.len() != velocities.len() {
+        return Err(Refusal::ListShape);
     }
     if !is_up_to(sounds, HIGHEST_SOUND) {
-        return Checked::Refused(too_large());
+        return Err(Refusal::TooLarge);
     }
     if !is_audible(velocities) {
-        return Checked::Refused(velocity_range());
+        return Err(Refusal::VelocityRange);
     }
     if !is_rising(sounds, steps) {
-        return Checked::Refused(invalid_layout(POSITIONS_NOT_INCREASING));
+        return Err(Refusal::InvalidLayout(Reason::PositionsNotIncreasing));
     }
     if !is_below(steps, len) {
-        return Checked::Refused(invalid_layout(WRITTEN_POSITION_EXCEEDS_LENGTH));
+        return Err(Refusal::InvalidLayout(Reason::WrittenPositionExceedsLength));
     }
-    Checked::Passed
+    Ok(())
 }

@@ -1,10 +1,10 @@
 -- What is stored is held, and what is held is stored.
 -- Assumes nothing.
+use Rattle.std.specs.Prelude.{None}
 use mathlib.Core.Path.{◌≡◌, refl, sym, ap, ◌∙◌}
 use mathlib.Core.Bool.{true}
 use mathlib.Core.List.{List, [], ◌∷◌, ◌++◌, append_assoc}
 use mathlib.Core.Logic.{inl, inr}
-use mathlib.Core.Option.{none}
 use Prim.Native.Nat.{ℕ, suc, ◌+◌, ◌*◌, ◌/◌, ◌%◌, ◌≤◌, ◌<◌}
 use native.Mathlib.Omega.{arith}
 use lib.ListN.{length, drop, get_or, length-append, length-drop}
@@ -70,12 +70,12 @@ module _ (bars : List Bar) (pad : List ℕ) where
   unfolding stored
   second_word = refl
 
-  pub whole_stored : length pad ≡ pad_words → length bars ≤ 256 → hits_in_all bars ≤ 8192 → bars_fine none (hits_in_all bars) bars ≡ true
+  pub whole_stored : length pad ≡ pad_words → length bars ≤ 256 → hits_in_all bars ≤ 8192 → bars_fine None (hits_in_all bars) bars ≡ true
       → whole (stored bars pad) ≡ true
   unfolding whole
   whole_stored l b h f =
       let n : length (stored bars pad) ≡ pad_words = length_stored (omega (arith, size_is bars)) ∙ l in
-      let fine = (bars_gives none (hits_in_all bars) bars f).1 in
+      let fine = (bars_gives None (hits_in_all bars) bars f).1 in
       rw (
         held_stored bars pad (λ b m h k. omega (arith, (fine b m).sounds h k)),
         first_word,

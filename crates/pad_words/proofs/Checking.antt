@@ -1,17 +1,17 @@
 -- The rules a test at a time, as the code takes them.
 -- Assumes nothing.
+use Rattle.std.specs.Prelude.{None, Option, Some}
 use mathlib.Core.Path.{◌≡◌, sym, ◌∙◌}
 use mathlib.Core.Bool.{Bool, true, false}
 use mathlib.Core.List.{List}
-use mathlib.Core.Option.{Option, none, some}
 use Prim.Native.Nat.{ℕ, ◌+◌, ◌-◌, ◌*◌, ◌%◌, ◌≤◌, ◌<◌}
 use native.Mathlib.Omega.{arith}
 use lib.Dec.{eqb, ltb}
 use lib.ListN.{length, drop, get_or}
 use borrow.Author.Tests.{le-leb, lt-leb, eq-eqb, ne_eqb}
 use Rattle.segment.specs.Records.{rises}
-use Rattle.segment.specs.Steps.{earlier}
-use Rattle.pad_map.specs.Bars.{Hit, Key, key, key_of}
+use Rattle.pad_map.specs.declared.Key.{Key}
+use Rattle.pad_map.specs.Bars.{Hit, key, key_of}
 use Rattle.pad_map.specs.Rules.{comes_after, hit_fine, hits_fine}
 use Rattle.pad_words.specs.Words.{pad_words, hit_at, hits_of, bars_of, held}
 use Rattle.pad_words.specs.Whole.{bars_fine, whole}
@@ -43,21 +43,12 @@ module _ (len : ℕ) (previous : Option Key) (h : Hit) where
         unfolding hit_fine
         hit_step e = rw (le-leb h.sound 127 s, le-leb 1 h.velocity v, le-leb h.velocity 127 w, e)
 
--- ---- an id, with the one before it
-
-module _ (first : Bool) (a b : ℕ) where
-  pub id_first : first ≡ true → true ≡ rises (earlier first a) b
-  id_first n = rw n
-
-  pub id_one : first ≡ false → ltb a b ≡ rises (earlier first a) b
-  id_one n = rw n
-
 -- ---- the hits from an offset on
 
 module _ (len : ℕ) (previous : Option Key) (ws : List ℕ) (at count i : ℕ) {all : Bool}
     (inv : hits_fine len previous (hits_of (count - i) (drop at ws)) ≡ all) where
   pub hits_next : i < count → true ≡ hit_fine len previous (hit_at (get_or ws at 0) (get_or ws (at + 1) 0))
-      → hits_fine len (some (key (get_or ws at 0 % 256) (get_or ws (at + 1) 0))) (hits_of (count - (i + 1)) (drop (at + 2) ws)) ≡ all
+      → hits_fine len (Some (key (get_or ws at 0 % 256) (get_or ws (at + 1) 0))) (hits_of (count - (i + 1)) (drop (at + 2) ws)) ≡ all
   unfolding hits_fine
   hits_next h e = rw (hits_step ws at count i h, ← e) at inv
 
@@ -86,12 +77,12 @@ module _ (previous : Option ℕ) (remaining : ℕ) (ws : List ℕ) (at count i :
     bars_over x = rw (bars_step ws at count i h, ← up, there, lt-leb n remaining x) at inv
 
     module _ (few : n ≤ remaining) where
-      pub bars_bad : false ≡ hits_fine (get_or ws (at + 1) 0) none (hits_of n (drop (at + 3) ws)) → false ≡ all
+      pub bars_bad : false ≡ hits_fine (get_or ws (at + 1) 0) None (hits_of n (drop (at + 3) ws)) → false ≡ all
       unfolding bars_fine
       bars_bad e = rw (bars_step ws at count i h, ← up, there, le-leb n remaining few, sym (rw is at e)) at inv
 
-      pub bars_next : true ≡ hits_fine (get_or ws (at + 1) 0) none (hits_of n (drop (at + 3) ws))
-          → bars_fine (some (get_or ws at 0)) (remaining - n) (bars_of (count - (i + 1)) (drop (at + (3 + 2 * n)) ws)) ≡ all
+      pub bars_next : true ≡ hits_fine (get_or ws (at + 1) 0) None (hits_of n (drop (at + 3) ws))
+          → bars_fine (Some (get_or ws at 0)) (remaining - n) (bars_of (count - (i + 1)) (drop (at + (3 + 2 * n)) ws)) ≡ all
       unfolding bars_fine
       bars_next e =
           rw is (rw (
@@ -123,6 +114,6 @@ module _ (pad : List ℕ) where
       unfolding whole
       whole_hits h = rw (eq-eqb (length pad) pad_words l, le-leb (get_or pad 0 0) 256 b, lt-leb (get_or pad 1 0) 8192 h)
 
-      pub whole_rest : get_or pad 1 0 ≤ 8192 → bars_fine none (get_or pad 1 0) (held pad) ≡ whole pad
+      pub whole_rest : get_or pad 1 0 ≤ 8192 → bars_fine None (get_or pad 1 0) (held pad) ≡ whole pad
       unfolding whole
       whole_rest h = rw (eq-eqb (length pad) pad_words l, le-leb (get_or pad 0 0) 256 b, le-leb (get_or pad 1 0) 8192 h)

@@ -1,10 +1,10 @@
 -- The test for a pad passes exactly where the words are one in words; words that are all zero are the empty pad.
 -- Assumes nothing.
+use Rattle.std.specs.Prelude.{None, Option, Some}
 use mathlib.Core.Path.{◌≡◌, refl}
 use mathlib.Core.Bool.{true}
-use mathlib.Core.List.{List, [], ◌∷◌, map}
+use mathlib.Core.List.{List, [], ◌∷◌}
 use mathlib.Core.Logic.{inl, inr}
-use mathlib.Core.Option.{Option, none, some}
 use Prim.Native.Nat.{ℕ, ◌+◌, ◌-◌}
 use native.Mathlib.Omega.{arith}
 use lib.ListN.{length, get_or}
@@ -18,7 +18,7 @@ use Rattle.pad_map.specs.Claims.{ids}
 use Rattle.pad_map.proofs.Ordered.{fine_exactly}
 use Rattle.pad_words.specs.Words.{pad_words, bars_of, held}
 use Rattle.pad_words.specs.Whole.{Whole, bars_fine, whole}
-use Rattle.pad_words.specs.Claims.{WholeExactly, Empty, ZerosEmpty}
+use Rattle.pad_words.specs.Claims.{WholeExactly, ZerosEmpty}
 use Rattle.pad_words.proofs.Wholes.{fine_cons, fine_make, whole_parts, total_is}
 
 abbrev pub EachFine : List Bar → Type 0
@@ -31,7 +31,7 @@ pub bars_gives : (previous : Option ℕ) (remaining : ℕ) (bars : List Bar) →
 bars_gives previous remaining [] t = (after_none previous, λ b m. absurd m)
 bars_gives previous remaining (b ∷ bs) t =
     let f = fine_cons previous remaining b bs t in
-    let later = bars_gives (some b.id) (remaining - length b.hits) bs f.rest in (
+    let later = bars_gives (Some b.id) (remaining - length b.hits) bs f.rest in (
       after_cons previous b.id (ids bs) f.up later.0,
       each (λ (c : Bar). HitsFine c.len c.hits) b bs ((fine_exactly b.len b.hits).0 f.fine) later.1,
     )
@@ -44,7 +44,7 @@ pub bars_from : (previous : Option ℕ) (bars : List Bar) → After previous (id
     → bars_fine previous (hits_in_all bars) bars ≡ true
 bars_from previous [] r f = fine_none previous
 bars_from previous (b ∷ bs) r f =
-    let later = bars_from (some b.id) bs (after_tail previous b.id (ids bs) r) (λ c m. f c (inr m)) in
+    let later = bars_from (Some b.id) bs (after_tail previous b.id (ids bs) r) (λ c m. f c (inr m)) in
     let e : length b.hits + hits_in_all bs - length b.hits ≡ hits_in_all bs = omega arith in
     fine_make previous (length b.hits + hits_in_all bs) b bs (record {
       up = after_head previous b.id (ids bs) r;
@@ -58,13 +58,13 @@ bars_from previous (b ∷ bs) r f =
 whole_gives : (pad : List ℕ) → whole pad ≡ true → Whole pad
 whole_gives pad w =
     let p = whole_parts pad w in
-    let (up, fine) = bars_gives none (get_or pad 1 0) (held pad) p.fine in
+    let (up, fine) = bars_gives None (get_or pad 1 0) (held pad) p.fine in
     record { words = p.words; bars = p.bars; hits = p.hits; ids_rise = up; each = fine; total = total_is pad w }
 
 whole_from : (pad : List ℕ) → Whole pad → whole pad ≡ true
 unfolding whole
 whole_from pad w =
-    let fine = bars_from none (held pad) w.ids_rise w.each in
+    let fine = bars_from None (held pad) w.ids_rise w.each in
     rw (
       eq-eqb (length pad) pad_words w.words,
       le-leb (get_or pad 0 0) 256 w.bars,

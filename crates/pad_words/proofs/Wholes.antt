@@ -1,9 +1,9 @@
 -- What words that are a pad have: the bars lie in the slice, and the two counts are those of what is held.
 -- Assumes nothing.
+use Rattle.std.specs.Prelude.{None, Option, Some}
 use mathlib.Core.Path.{◌≡◌, refl, sym, ◌∙◌}
 use mathlib.Core.Bool.{true}
 use mathlib.Core.List.{List, [], ◌∷◌}
-use mathlib.Core.Option.{Option, none, some}
 use Prim.Native.Nat.{ℕ, ◌+◌, ◌-◌, ◌*◌, ◌≤◌}
 use native.Mathlib.Omega.{arith}
 use lib.Dec.{eqb, leb}
@@ -22,8 +22,8 @@ use Rattle.pad_words.proofs.Steps.{bars_many}
 pub record FineCons (previous : Option ℕ) (remaining : ℕ) (b : Bar) (bs : List Bar) : Type 0 where
   pub up : rises previous b.id ≡ true
   pub few : length b.hits ≤ remaining
-  pub fine : hits_fine b.len none b.hits ≡ true
-  pub rest : bars_fine (some b.id) (remaining - length b.hits) bs ≡ true
+  pub fine : hits_fine b.len None b.hits ≡ true
+  pub rest : bars_fine (Some b.id) (remaining - length b.hits) bs ≡ true
 
 module _ (previous : Option ℕ) (remaining : ℕ) (b : Bar) (bs : List Bar) where
   pub fine_cons : bars_fine previous remaining (b ∷ bs) ≡ true → FineCons previous remaining b bs
@@ -34,8 +34,8 @@ module _ (previous : Option ℕ) (remaining : ℕ) (b : Bar) (bs : List Bar) whe
       record {
         up = and_left (rises previous b.id) _ e;
         few = leb-true (length b.hits) remaining (and_left (leb (length b.hits) remaining) _ r);
-        fine = and_left (hits_fine b.len none b.hits) _ s;
-        rest = and_right (hits_fine b.len none b.hits) _ s;
+        fine = and_left (hits_fine b.len None b.hits) _ s;
+        rest = and_right (hits_fine b.len None b.hits) _ s;
       }
 
   pub fine_make : FineCons previous remaining b bs → bars_fine previous remaining (b ∷ bs) ≡ true
@@ -49,7 +49,7 @@ unfolding bars_fine
 fine_sum previous remaining [] e = sym (eqb-true remaining 0 e)
 fine_sum previous remaining (b ∷ bs) e =
     let f = fine_cons previous remaining b bs e in
-    omega (arith, f.few, fine_sum (some b.id) (remaining - length b.hits) bs f.rest)
+    omega (arith, f.few, fine_sum (Some b.id) (remaining - length b.hits) bs f.rest)
 
 pub held_many : (pad : List ℕ) → length (held pad) ≡ get_or pad 0 0
 unfolding held
@@ -63,7 +63,7 @@ pub record WholeParts (pad : List ℕ) : Type 0 where
   pub words : length pad ≡ pad_words
   pub bars : get_or pad 0 0 ≤ 256
   pub hits : get_or pad 1 0 ≤ 8192
-  pub fine : bars_fine none (get_or pad 1 0) (held pad) ≡ true
+  pub fine : bars_fine None (get_or pad 1 0) (held pad) ≡ true
 
 module _ (pad : List ℕ) (w : whole pad ≡ true) where
   pub whole_parts : WholeParts pad
@@ -80,7 +80,7 @@ module _ (pad : List ℕ) (w : whole pad ≡ true) where
 
   -- word 1 is the sum, and the words end where the two counts say, which is within the pad
   pub total_is : hits_in_all (held pad) ≡ get_or pad 1 0
-  total_is = fine_sum none (get_or pad 1 0) (held pad) whole_parts.fine
+  total_is = fine_sum None (get_or pad 1 0) (held pad) whole_parts.fine
 
   pub size_held : size (held pad) ≡ 3 * get_or pad 0 0 + 2 * get_or pad 1 0
   size_held = size_is (held pad) ∙ rw (held_many pad, total_is)

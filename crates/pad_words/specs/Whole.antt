@@ -1,6 +1,5 @@
 -- Which words are a pad: every other value is 20 (document 02). In words, and as the test.
-use Rattle.std.specs.Prelude.{ℕ, ◌-◌, ◌≤◌, ◌≡◌, Bool, ◌&&◌, List, [], ◌∷◌, map, leb, eqb, length, get_or}
-use Rattle.std.proofs.Math.Option.{Option, none, some}
+use Rattle.std.specs.Prelude.{None, Option, Some, ℕ, ◌-◌, ◌≤◌, ◌≡◌, Bool, ◌&&◌, List, [], ◌∷◌, map, leb, eqb, length, get_or}
 use Rattle.common.specs.Elements.{◌∈◌, Rising}
 use Rattle.segment.specs.Records.{rises}
 use Rattle.pad_map.specs.Bars.{Bar, hits_in_all}
@@ -24,9 +23,9 @@ bars_fine previous remaining [] = eqb remaining 0
 bars_fine previous remaining (b ∷ bs) =
     rises previous b.id
     && (leb (length b.hits) remaining
-    && (hits_fine b.len none b.hits && bars_fine (some b.id) (remaining - length b.hits) bs))
+    && (hits_fine b.len None b.hits && bars_fine (Some b.id) (remaining - length b.hits) bs))
 
 unfoldable pub whole : (pad : List ℕ) → Bool
 whole pad =
     eqb (length pad) pad_words
-    && (leb (get_or pad 0 0) 256 && (leb (get_or pad 1 0) 8192 && bars_fine none (get_or pad 1 0) (held pad)))
+    && (leb (get_or pad 0 0) 256 && (leb (get_or pad 1 0) 8192 && bars_fine None (get_or pad 1 0) (held pad)))

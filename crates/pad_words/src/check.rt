@@ -1,84 +1,53 @@
 // Whether the words are a pad: kind 20.
-ghost use Rattle.std.specs.Prelude.{◌≡◌, ◌+◌, ◌*◌, ◌≤◌, length, drop};
-ghost use Rattle.std.proofs.Math.Option.{none};
+ghost use Rattle.std.specs.Prelude.{None, Option, ◌≡◌, ◌+◌, ◌*◌, ◌≤◌, length, drop};
 ghost use Rattle.segment.specs.Records.{rises};
-ghost use Rattle.segment.specs.Steps.{earlier};
-ghost use Rattle.pad_map.specs.Bars.{hit, key};
+ghost use Rattle.pad_map.specs.Bars.{with_velocity};
 ghost use Rattle.pad_map.specs.Rules.{hit_fine as hit_rule, hits_fine as hits_rule};
 ghost use Rattle.pad_words.specs.Words.{hits_of};
 ghost use Rattle.pad_words.specs.Whole.{whole};
 
 use crate::layout::{BARS, HITS, VELOCITY_UNIT, WORDS};
 use common::widths::long;
+use pad_map::Key;
 use pad_rules::order::follows;
 
 // One hit of a bar; the first follows none.
-fn hit_fine(
-    length: u32,
-    first: bool,
-    sound_before: u32,
-    step_before: u32,
-    sound: u32,
-    step: u32,
-    velocity: u32,
-) -> bool
-    ensures { result ≡ hit_rule length (earlier first (key sound_before step_before)) (hit sound step velocity) }
+fn hit_fine(length: u32, previous: Option<Key>, hit: Key, velocity: u32) -> bool
+    ensures { result ≡ hit_rule length previous (with_velocity hit velocity) }
 {
-    if 127 < sound {
-        return false;
-    }
-    if velocity < 1 {
-        return false;
-    }
-    if 127 < velocity {
-        return false;
-    }
-    if !follows(first, sound_before, step_before, sound, step) {
-        return false;
-    }
-    step < length
+    hit.sound <= 127
+        && 1 <= velocity
+        && velocity <= 127
+        && follows(previous, hit)
+        && hit.step < length
 }
 
 // The hits of a bar, from an offset on.
 fn hits_fine(pad: &[u32], from: usize, count: usize, len: u32) -> bool
     requires { from + 2 * count ≤ length pad.now }
-    ensures { result ≡ hits_rule len none (hits_of count (drop from pad.now)) }
+    ensures { result ≡ hits_rule len None (hits_of count (drop from pad.now)) }
 {
-    let mut at = from;
-    let mut sound_before: u32 = 0;
-    let mut step_before: u32 = 0;
-    let mut i: usize = 0;
-    while i < count {
+    let mut previous = None;
+    for i in 0..count {
+        let at = from + 2 * i;
         let word = pad[at];
-        let step = pad[at + 1];
-        let sound = word % VELOCITY_UNIT;
-        if !hit_fine(
-            len,
-            i == 0,
-            sound_before,
-            step_before,
-            sound,
-            step,
-            word / VELOCITY_UNIT,
-        ) {
+        let hit = Key {
+            sound: word % VELOCITY_UNIT,
+            step: pad[at + 1],
+        };
+        if !hit_fine(len, previous, hit, word / VELOCITY_UNIT) {
             return false;
         }
-        sound_before = sound;
-        step_before = step;
-        at += 2;
-        i += 1;
+        previous = Some(hit);
     }
     true
 }
 
 // An id above the one before; the first follows none.
-fn id_rises(first: bool, id_before: u32, id: u32) -> bool
-    ensures { result ≡ rises (earlier first id_before) id }
+fn id_rises(previous: Option<u32>, id: u32) -> bool
+    ensures { result ≡ rises previous id }
 {
-    if first {
-        return true;
-    }
-    id_before < id
+    previous.is_none_or(|before| before < id)
 }
 
 // Whether the words are a pad, whatever their number and values. Counts are taken off what remains of word 1 and never added up, so that no
@@ -91,32 +60,21 @@ pub fn is_whole(pad: &[u32]) -> bool
     }
     let count = long(pad[0]);
     let mut remaining = long(pad[1]);
-    if BARS < count {
+    if BARS < count || HITS < remaining {
         return false;
     }
-    if HITS < remaining {
-        return false;
-    }
-    let mut at: usize = 2;
-    let mut id_before: u32 = 0;
-    let mut i: usize = 0;
-    while i < count {
+    let mut at = 2;
+    let mut previous = None;
+    for _ in 0..count {
         let id = pad[at];
         let len = pad[at + 1];
         let hits = long(pad[at + 2]);
-        if !id_rises(i == 0, id_before, id) {
+        if !id_rises(previous, id) || remaining < hits || !hits_fine(pad, at + 3, hits, len) {
             return false;
         }
-        if remaining < hits {
-            return false;
-        }
-        if !hits_fine(pad, at + 3, hits, len) {
-            return false;
-        }
-        id_before = id;
+        previous = Some(id);
         remaining -= hits;
         at += 3 + 2 * hits;
-        i += 1;
     }
     remaining == 0
 }

@@ -5,30 +5,21 @@ ghost use Rattle.pad_words.specs.Steps.{place_from, Inside};
 
 use common::widths::long;
 
-#[derive(Clone, Copy)]
-pub enum Place {
-    Held(usize),
-    Free(usize),
-}
-
-// Bars stand by rising id, so the first that is not lower decides.
-pub fn place_of(pad: &[u32], id: u32) -> Place
+// Where the bar with an id begins, or, as an error, where it would. Bars stand by rising id, so the first that is not lower decides.
+pub fn place_of(pad: &[u32], id: u32) -> Result<usize, usize>
     requires { Inside pad.now }
     ensures { result ≡ place_from 2 (held pad.now) id }
 {
-    let count = long(pad[0]);
-    let mut at: usize = 2;
-    let mut i: usize = 0;
-    while i < count {
+    let mut at = 2;
+    for _ in 0..pad[0] {
         let here = pad[at];
-        if id <= here {
-            if here == id {
-                return Place::Held(at);
-            }
-            return Place::Free(at);
+        if here == id {
+            return Ok(at);
+        }
+        if here > id {
+            return Err(at);
         }
         at += 3 + 2 * long(pad[at + 2]);
-        i += 1;
     }
-    Place::Free(at)
+    Err(at)
 }

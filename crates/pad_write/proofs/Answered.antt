@@ -1,9 +1,9 @@
 -- The call's answers: 20, then 12 and 11, then what the writer answers of the pad's lists.
 -- Assumes nothing.
+use Rattle.std.specs.Prelude.{Err, None, Ok}
 use mathlib.Core.Path.{◌≡◌, sym, ap, ◌∙◌}
 use mathlib.Core.Bool.{Bool, true, false, ◌&&◌}
 use mathlib.Core.List.{List}
-use mathlib.Core.Option.{none}
 use Prim.Native.Nat.{ℕ, ◌+◌, ◌*◌, ◌≤◌, ◌<◌, ◌^◌}
 use native.Mathlib.Omega.{arith}
 use lib.Dec.{leb, eqb}
@@ -12,12 +12,9 @@ use borrow.Author.Tests.{le-leb, lt-leb, leb-true, eqb-true, eq-eqb, ne_eqb}
 use Rattle.common.specs.Lists.{paired}
 use Rattle.common.proofs.Loops.{and_left, and_right}
 use Rattle.segment.specs.declared.refusal.Refusal.{Refusal}
-use Rattle.segment.specs.declared.checked.Checked.TheVariants as check
-use Rattle.segment.specs.declared.replies.Written.{Written}
-use Rattle.segment.specs.declared.replies.Written.TheVariants as written
 use Rattle.segment.specs.Metadata.{document}
 use Rattle.segment.specs.Refusals.{too_large, list_shape, broken_pad, no_room}
-use Rattle.segment.specs.Results.{Result, ok, refuse, ◌>>=◌, check as checking}
+use Rattle.segment.specs.Results.{Answer, ◌>>=◌, check as checking}
 use Rattle.segment.specs.Steps.{checked}
 use Rattle.segment.specs.Texts.{ends_fit}
 use Rattle.segment.specs.Written.{name_bytes, metadata_bytes, segment_bytes}
@@ -40,8 +37,7 @@ use Rattle.pad_lists.specs.Steps.{DocumentsGathered}
 use Rattle.pad_write.specs.declared.measure.Tally.{Tally}
 use Rattle.pad_write.specs.Promise.{PadWritten}
 use Rattle.pad_write.specs.Steps.{TalliedAll, DocumentsGiven, PadAndNames, check_text, SegmentRoom, SegmentStored}
-use Rattle.pad_write.proofs.Bounds.{Few, documents_of, documents_are, bars_few, pad_terms, pad_given, terms_few, checks_are}
-use Rattle.pad_write.proofs.Bounds.{lists_low}
+use Rattle.pad_write.proofs.Bounds.{Few, documents_of, documents_are, bars_few, pad_terms, pad_given, terms_few, checks_are, lists_low}
 
 -- ---- the documents handed in
 
@@ -83,11 +79,11 @@ module _ (pad text ends : List ℕ) {posting_ids counts positions : List ℕ} (q
   abbrev handed : Lists
   handed = laid_flat (pad_given pad text ends)
 
-  checks_same : check_lists handed ≡ check_terms (paired document ids lengths) none (pad_terms pad text ends)
+  checks_same : check_lists handed ≡ check_terms (paired document ids lengths) None (pad_terms pad text ends)
   checks_same = rw (documents_given d) (checks_are pad q.whole_pad text ends q.short q.sounds q.fit)
 
-  pub sounds_refused : {x : Refusal} → check_terms (paired document ids lengths) none (pad_terms pad text ends) ≡ refuse x
-      → Wrote handed out (written.Refused x) out
+  pub sounds_refused : {x : Refusal} → check_terms (paired document ids lengths) None (pad_terms pad text ends) ≡ Err x
+      → Wrote handed out (Err x) out
   sounds_refused e = wrote_refusal handed out (sym (ap checked (checks_same ∙ e)))
 
   module _ {t : Tally} (m : TalliedAll (paired document ids lengths) (pad_terms pad text ends) t) where
@@ -95,7 +91,7 @@ module _ (pad text ends : List ℕ) {posting_ids counts positions : List ℕ} (q
     pub record SizesLow : Type 0 where
       pub terms : t.terms ≤ 128
       pub name_size : t.names ≤ 16777216
-      pub metadata_size : length (metadata_bytes none (paired document ids lengths)) ≤ 2560
+      pub metadata_size : length (metadata_bytes None (paired document ids lengths)) ≤ 2560
       pub list_size : t.lists ≤ 251658240
       pub documents : length ids ≤ 256
 
@@ -111,16 +107,16 @@ module _ (pad text ends : List ℕ) {posting_ids counts positions : List ℕ} (q
           documents = few;
         }
 
-    passes : check.Passed ≡ checked (check_lists handed)
+    passes : (Ok tt) ≡ checked (check_lists handed)
     passes = sym (ap checked (checks_same ∙ m.passed))
 
-    module _ {size names_at metadata_at lists_at end : ℕ} (is : size ≡ length (metadata_bytes none (paired document ids lengths)))
+    module _ {size names_at metadata_at lists_at end : ℕ} (is : size ≡ length (metadata_bytes None (paired document ids lengths)))
         (n : names_at ≡ 72 + t.terms * 32) (k : metadata_at ≡ names_at + t.names) (l : lists_at ≡ metadata_at + size)
         (e : end ≡ lists_at + t.lists) where
       abbrev offsets : Offsets
       offsets = record { names = names_at; metadata = metadata_at; lists = lists_at; end = end }
 
-      size_is : size ≡ length (metadata_bytes none (pad_given pad text ends).documents)
+      size_is : size ≡ length (metadata_bytes None (pad_given pad text ends).documents)
       unfolding given_of
       size_is = is ∙ rw (documents_given d)
 
@@ -141,38 +137,38 @@ module _ (pad text ends : List ℕ) {posting_ids counts positions : List ℕ} (q
           rw (given_back (pad_given pad text ends))
           (omega (arith, segment_size (pad_given pad text ends), n, k, l, e, size_is, m.count, m.name_size, m.list_size))
 
-      pub sounds_no_room : length out < end → Wrote handed out (written.Refused (no_room 1 end)) out
+      pub sounds_no_room : length out < end → Wrote handed out (Err (no_room 1 end)) out
       sounds_no_room h = wrote_no_room handed out passes length_is h
 
       pub sounds_written : {out' : List ℕ} → end ≤ length out → SegmentStored (pad_given pad text ends) out out'
-          → Wrote handed out (written.Length end) out'
+          → Wrote handed out (Ok end) out'
       sounds_written h s =
           wrote_all handed out passes length_is h (record { left = rw (given_back (pad_given pad text ends)) s.left })
 
 -- ---- the text's checks
 
 module _ (text ends : List ℕ) where
-  pub text_long : 16777216 < length text → check.Refused too_large ≡ checked (check_text text ends)
+  pub text_long : 16777216 < length text → Err too_large ≡ checked (check_text text ends)
   unfolding check_text
   text_long h = rw (lt-leb (length text) 16777216 h)
 
   module _ (h : length text ≤ 16777216) where
-    pub ends_long : 16777216 < length ends → check.Refused too_large ≡ checked (check_text text ends)
+    pub ends_long : 16777216 < length ends → Err too_large ≡ checked (check_text text ends)
     unfolding check_text
     ends_long k = rw (le-leb (length text) 16777216 h, lt-leb (length ends) 16777216 k)
 
     module _ (k : length ends ≤ 16777216) where
-      pub ends_other : (length ends ≡ 128 → ⊥) → check.Refused list_shape ≡ checked (check_text text ends)
+      pub ends_other : (length ends ≡ 128 → ⊥) → Err list_shape ≡ checked (check_text text ends)
       unfolding check_text
       ends_other n = rw (le-leb (length text) 16777216 h, le-leb (length ends) 16777216 k, ne_eqb (length ends) 128 n)
 
       module _ (n : length ends ≡ 128) {b : Bool} (is : b ≡ ends_fit 0 ends (length text)) where
-        pub text_unshaped : b ≡ false → check.Refused list_shape ≡ checked (check_text text ends)
+        pub text_unshaped : b ≡ false → Err list_shape ≡ checked (check_text text ends)
         unfolding check_text
         text_unshaped e =
             rw (le-leb (length text) 16777216 h, le-leb (length ends) 16777216 k, eq-eqb (length ends) 128 n, ← is, e)
 
-        pub text_fine : b ≡ true → check.Passed ≡ checked (check_text text ends)
+        pub text_fine : b ≡ true → (Ok tt) ≡ checked (check_text text ends)
         unfolding check_text
         text_fine e =
             rw (le-leb (length text) 16777216 h, le-leb (length ends) 16777216 k, eq-eqb (length ends) 128 n, ← is, e)
@@ -182,7 +178,7 @@ module _ (text ends : List ℕ) where
     pub sounds : length ends ≡ 128
     pub fit : ends_fit 0 ends (length text) ≡ true
 
-  pub text_gives : check_text text ends ≡ ok tt → TextFine
+  pub text_gives : check_text text ends ≡ Ok tt → TextFine
   unfolding check_text
   text_gives e =
       let r = check_gives (leb (length text) 16777216 && leb (length ends) 16777216) _ _ e in
@@ -196,20 +192,20 @@ module _ (text ends : List ℕ) where
 -- ---- the call
 
 -- the text's checks together, then the writer
-two_checks : (a b : Bool) (x y : Refusal) (f : Result (List ℕ)) {r : Result (Unit {0})} → (checking a x >>= λ _. checking b y) ≡ r
+two_checks : (a b : Bool) (x y : Refusal) (f : Answer (List ℕ)) {r : Answer (Unit {0})} → (checking a x >>= λ _. checking b y) ≡ r
     → (checking a x >>= λ _. checking b y >>= λ _. f) ≡ (r >>= λ _. f)
-two_checks true true x y f e = ap (λ (r : Result (Unit {0})). r >>= λ _. f) e
-two_checks true false x y f e = ap (λ (r : Result (Unit {0})). r >>= λ _. f) e
-two_checks false true x y f e = ap (λ (r : Result (Unit {0})). r >>= λ _. f) e
-two_checks false false x y f e = ap (λ (r : Result (Unit {0})). r >>= λ _. f) e
+two_checks true true x y f e = ap (λ (r : Answer (Unit {0})). r >>= λ _. f) e
+two_checks true false x y f e = ap (λ (r : Answer (Unit {0})). r >>= λ _. f) e
+two_checks false true x y f e = ap (λ (r : Answer (Unit {0})). r >>= λ _. f) e
+two_checks false false x y f e = ap (λ (r : Answer (Unit {0})). r >>= λ _. f) e
 
 module _ (pad text ends out : List ℕ) where
-  pub pad_broken : whole pad ≡ false → PadWritten pad text ends out (written.Refused broken_pad) out
+  pub pad_broken : whole pad ≡ false → PadWritten pad text ends out (Err broken_pad) out
   unfolding pad_write held_bars
   pad_broken w = record { reply = rw w; left = rw w }
 
   module _ (w : whole pad ≡ true) where
-    answer_is : {r : Result (Unit {0})} → check_text text ends ≡ r
+    answer_is : {r : Answer (Unit {0})} → check_text text ends ≡ r
         → pad_write pad text ends (length out) ≡ (r >>= λ _. write (laid_flat (pad_given pad text ends)) (length out))
     unfolding pad_write held_bars write_out check_text
     answer_is e =
@@ -217,10 +213,10 @@ module _ (pad text ends out : List ℕ) where
         (two_checks (leb (length text) 16777216 && leb (length ends) 16777216) (eqb (length ends) 128 && ends_fit 0 ends (length text))
         too_large list_shape (write (laid_flat (pad_given pad text ends)) (length out)) e)
 
-    pub text_refused : {x : Refusal} → check_text text ends ≡ refuse x → PadWritten pad text ends out (written.Refused x) out
+    pub text_refused : {x : Refusal} → check_text text ends ≡ Err x → PadWritten pad text ends out (Err x) out
     text_refused e = record { reply = rw (answer_is e); left = rw (answer_is e) }
 
-    pub pad_answered : check_text text ends ≡ ok tt → {r : Written} {out' : List ℕ}
+    pub pad_answered : check_text text ends ≡ Ok tt → {r : (Answer ℕ)} {out' : List ℕ}
         → Wrote (laid_flat (pad_given pad text ends)) out r out'
         → PadWritten pad text ends out r out'
     pad_answered e s = record { reply = rw (answer_is e) s.reply; left = rw (answer_is e) s.left }

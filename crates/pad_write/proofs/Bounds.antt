@@ -1,10 +1,10 @@
 -- The lists of a pad that is whole, laid flat: small and well shaped, with documents that rise, so that the writer's checks are the names'
 -- and the postings'.
 -- Assumes nothing.
+use Rattle.std.specs.Prelude.{None, Ok, Option, Some}
 use mathlib.Core.Path.{◌≡◌, refl, sym, ap, ◌∙◌}
 use mathlib.Core.Bool.{Bool, true, false, cond}
 use mathlib.Core.List.{List, [], ◌∷◌, ◌++◌, map}
-use mathlib.Core.Option.{Option, none, some}
 use Prim.Native.Nat.{ℕ, suc, ◌+◌, ◌*◌, ◌≤◌}
 use native.Mathlib.Omega.{arith}
 use lib.Dec.{ltb}
@@ -12,7 +12,6 @@ use lib.ListN.{length, get_or, length-append, length-map}
 use Rattle.common.specs.Lists.{joined, paired}
 use Rattle.segment.specs.Metadata.{document}
 use Rattle.segment.specs.Records.{Document, Posting, Term, Given}
-use Rattle.segment.specs.Results.{ok}
 use Rattle.segment.specs.Texts.{ends_fit, names}
 use Rattle.segment.specs.Written.{name_bytes, lists_bytes}
 use Rattle.segment.proofs.Shapes.{names_count}
@@ -52,12 +51,12 @@ documents_match {pad} d =
 
 -- ids rise, so their check passes
 documents_pass : (previous : Option ℕ) (remaining : ℕ) (bars : List Bar) → bars_fine previous remaining bars ≡ true
-    → check_documents previous (documents_of bars) ≡ ok tt
+    → check_documents previous (documents_of bars) ≡ Ok tt
 unfolding check_documents
 documents_pass previous remaining [] e = refl
 documents_pass previous remaining (b ∷ bs) e =
     let f = fine_cons previous remaining b bs e in
-    rw f.up (documents_pass (some b.id) _ bs f.rest)
+    rw f.up (documents_pass (Some b.id) _ bs f.rest)
 
 pub ids_are : (bars : List Bar) → map (λ d. d.id) (documents_of bars) ≡ map (λ b. b.id) bars
 ids_are [] = refl
@@ -121,13 +120,13 @@ abbrev pub pad_given : (pad text ends : List ℕ) → Given
 pad_given pad text ends = given_of (names 0 ends text) (held pad)
 
 module _ (pad : List ℕ) (w : whole pad ≡ true) where
-  pub documents_fine : check_documents none (documents_of (held pad)) ≡ ok tt
-  documents_fine = documents_pass none (get_or pad 1 0) (held pad) (whole_parts pad w).fine
+  pub documents_fine : check_documents None (documents_of (held pad)) ≡ Ok tt
+  documents_fine = documents_pass None (get_or pad 1 0) (held pad) (whole_parts pad w).fine
 
   pub ids_rise : RisingByIndex (map (λ b. b.id) (held pad))
   ids_rise =
       rises_by_place (map (λ b. b.id) (held pad))
-      (rw (ids_are (held pad)) at (documents_give none (documents_of (held pad)) documents_fine))
+      (rw (ids_are (held pad)) at (documents_give None (documents_of (held pad)) documents_fine))
 
   pub bars_few : length (held pad) ≤ 256
   bars_few = omega (arith, held_many pad, (whole_parts pad w).bars)
@@ -166,7 +165,7 @@ module _ (pad : List ℕ) (w : whole pad ≡ true) where
         }
 
     -- the writer's checks of these lists are those of the terms
-    pub checks_are : check_lists (laid_flat given_here) ≡ check_terms (documents_of (held pad)) none (pad_terms pad text ends)
+    pub checks_are : check_lists (laid_flat given_here) ≡ check_terms (documents_of (held pad)) None (pad_terms pad text ends)
     unfolding check_lists check_given given_of
     checks_are =
         rw (

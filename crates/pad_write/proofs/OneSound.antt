@@ -1,8 +1,8 @@
 -- One sound stored: its list, then the entry over it, then its name; or nothing.
 -- Assumes nothing.
+use Rattle.std.specs.Prelude.{None}
 use mathlib.Core.Path.{◌≡◌, refl, sym, ap, ◌∙◌}
 use mathlib.Core.List.{List}
-use mathlib.Core.Option.{none}
 use Prim.Native.Nat.{ℕ, ◌+◌, ◌-◌, ◌≤◌}
 use native.Mathlib.Omega.{arith}
 use lib.ListN.{length}
@@ -26,7 +26,7 @@ module _ (text posting_ids counts positions : List ℕ) (got : Gathered) (end : 
   postings = gathered posting_ids counts positions got
 
   abbrev list : List ℕ
-  list = postings_bytes none postings
+  list = postings_bytes None postings
 
   abbrev name : List ℕ
   name = between p.from end text

@@ -1,8 +1,8 @@
 -- The parts of lists that hold a sound's postings fit together, as the writer's functions ask.
 -- Assumes nothing.
+use Rattle.std.specs.Prelude.{None}
 use mathlib.Core.Path.{◌≡◌, sym, ◌∙◌}
 use mathlib.Core.List.{List}
-use mathlib.Core.Option.{none}
 use Prim.Native.Nat.{ℕ, ◌≤◌}
 use native.Mathlib.Omega.{arith}
 use lib.ListN.{length, take, replicate, length-replicate}
@@ -39,11 +39,11 @@ module _ (posting_ids counts positions : List ℕ) (got : Gathered) (l : InLists
       (side_by_side ∙ sym (parts_count (take got.postings counts) (take got.positions positions)))
       ∙ ids_size
 
-  pub list_low : length (postings_bytes none (gathered posting_ids counts positions got)) ≤ 43520
+  pub list_low : length (postings_bytes None (gathered posting_ids counts positions got)) ≤ 43520
   list_low =
       omega (
         arith,
-        flat_postings_size none (take got.postings posting_ids) (take got.postings counts) (take got.positions positions),
+        flat_postings_size None (take got.postings posting_ids) (take got.postings counts) (take got.positions positions),
         counts_size,
         positions_size,
         l.few_postings,

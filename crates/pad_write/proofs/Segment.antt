@@ -1,8 +1,8 @@
 -- The sections stored each at its offset, and the header over them, are the segment; and what is made of the sizes is its length.
 -- Assumes nothing.
+use Rattle.std.specs.Prelude.{None}
 use mathlib.Core.Path.{◌≡◌, sym, ap, ◌∙◌}
 use mathlib.Core.List.{List, ◌++◌}
-use mathlib.Core.Option.{none}
 use Prim.Native.Nat.{ℕ, ◌+◌, ◌≤◌, ◌<◌, ◌^◌}
 use native.Mathlib.Omega.{arith}
 use lib.ListN.{length, drop}
@@ -26,7 +26,7 @@ module _ (g : Given) (out : List ℕ) (terms : ℕ) (at : Offsets) (room : Segme
   names = name_bytes g.terms
 
   abbrev metadata : List ℕ
-  metadata = metadata_bytes none g.documents
+  metadata = metadata_bytes None g.documents
 
   abbrev lists : List ℕ
   lists = lists_bytes g.terms

@@ -22,8 +22,7 @@ use Rattle.write_segment.proofs.Entries.{beside}
 use Rattle.write_segment.proofs.Sets.{sets_comm}
 use Rattle.pad_map.specs.Bars.{Bar}
 use Rattle.pad_write.specs.declared.store.Progress.{Progress}
-use Rattle.pad_write.specs.Steps.{terms_from, stored_terms, TermStored, NothingStored, SoundStored, TermRoom, TermsStored}
-use Rattle.pad_write.specs.Steps.{TermsRoom}
+use Rattle.pad_write.specs.Steps.{terms_from, stored_terms, TermStored, NothingStored, SoundStored, TermRoom, TermsStored, TermsRoom}
 use Rattle.pad_write.proofs.Sounds.{NextSound, come_end}
 use Rattle.pad_write.proofs.Tallying.{names_cons, lists_cons}
 

@@ -1,10 +1,10 @@
 -- The sounds checked and measured one by one: what is measured and what is still to come make the whole.
 -- Assumes nothing.
+use Rattle.std.specs.Prelude.{Err, IfSome, None, Ok, Option, Some}
 use mathlib.Core.Path.{◌≡◌, refl, sym, ap, ◌∙◌}
 use mathlib.Core.Bool.{true}
 use mathlib.Core.List.{List, ◌∷◌, map}
 use mathlib.Core.Logic.{⊎_elim}
-use mathlib.Core.Option.{Option, none, some}
 use Prim.Native.Nat.{ℕ, ◌+◌, ◌≤◌, ◌<◌}
 use native.Mathlib.Omega.{arith}
 use lib.ListN.{length, drop, length-append}
@@ -14,60 +14,58 @@ use Rattle.common.proofs.Loops.{lt_or_ge}
 use Rattle.segment.specs.declared.refusal.Refusal.{Refusal}
 use Rattle.segment.specs.Records.{Document, Posting, Term, between}
 use Rattle.segment.specs.Refusals.{invalid_layout, empty_term_posting_list}
-use Rattle.segment.specs.Results.{Result, ok, refuse, ◌>>=◌, check}
+use Rattle.segment.specs.Results.{Answer, ◌>>=◌, check}
 use Rattle.segment.specs.Texts.{ends_fit}
 use Rattle.segment.specs.Written.{postings_bytes, list_bytes, name_bytes, lists_bytes}
-use Rattle.segment.proofs.Accepted.{earlier_next}
 use Rattle.segment.proofs.Binds.{refuse_ok}
 use Rattle.calls.specs.Checks.{check_name, check_postings, check_terms}
 use Rattle.calls.specs.Given.{term}
 use Rattle.pad_map.specs.Bars.{Bar}
 use Rattle.pad_write.specs.declared.measure.Tally.{Tally}
-use Rattle.pad_write.specs.declared.measure.Tallied.TheVariants.{Next, Refused}
 use Rattle.pad_write.specs.Steps.{terms_from, last_name, past_sound, past_term, going_on, check_sound, tallied, TalliedAll}
 use Rattle.pad_write.proofs.Sounds.{NextSound, come_end}
 
 -- ---- one sound
 
-going_next : (r : Result (Unit {0})) (w : Tally) {t : Tally} → Next t ≡ going_on r w → (r ≡ ok tt) × (t ≡ w)
-going_next (ok u) w e = (refl, cc)
-going_next (refuse x) w e = let z : ◌≡◌ {A = ℕ} 0 1 = cc in absurd (omega arith)
+going_next : (r : Answer (Unit {0})) (w : Tally) {t : Tally} → Ok t ≡ going_on r w → (r ≡ Ok tt) × (t ≡ w)
+going_next (Ok u) w e = (refl, cc)
+going_next (Err x) w e = let z : ◌≡◌ {A = ℕ} 0 1 = cc in absurd (omega arith)
 
-going_stop : (r : Result (Unit {0})) (w : Tally) {x : Refusal} → Refused x ≡ going_on r w → r ≡ refuse x
-going_stop (ok u) w e = let z : ◌≡◌ {A = ℕ} 0 1 = cc in absurd (omega arith)
-going_stop (refuse y) w e = cc
+going_stop : (r : Answer (Unit {0})) (w : Tally) {x : Refusal} → Err x ≡ going_on r w → r ≡ Err x
+going_stop (Ok u) w e = let z : ◌≡◌ {A = ℕ} 0 1 = cc in absurd (omega arith)
+going_stop (Err y) w e = cc
 
-next_stop : {P : Type 0} {t : Tally} {x : Refusal} → Refused x ≡ Next t → P
+next_stop : {P : Type 0} {t : Tally} {x : Refusal} → Err x ≡ Ok t → P
 next_stop e = let z : ◌≡◌ {A = ℕ} 0 1 = cc in absurd (omega arith)
 
-same_tally : {t u : Tally} → Next t ≡ Next u → t ≡ u
+same_tally : {t u : Tally} → ◌≡◌ {A = Answer Tally} (Ok t) (Ok u) → t ≡ u
 same_tally e = cc
 
 module _ (documents : List Document) (text : List ℕ) (n : ℕ) (ps : List Posting) (end : ℕ) (t : Tally) where
   -- the code's answers
-  pub tallied_unused : n ≡ 0 → Next (past_sound t end) ≡ tallied documents text n ps end t
+  pub tallied_unused : n ≡ 0 → Ok (past_sound t end) ≡ tallied documents text n ps end t
   unfolding tallied
   tallied_unused z = rw (le-ltb 0 n (omega arith))
 
   module _ (h : n ≡ 0 → ⊥) where
     tallied_used : tallied documents text n ps end t
-        ≡ going_on (check_sound documents text ps end t) (past_term t end (length (postings_bytes none ps)))
+        ≡ going_on (check_sound documents text ps end t) (past_term t end (length (postings_bytes None ps)))
     unfolding tallied
     tallied_used = rw (lt-ltb 0 n (omega arith))
 
     module _ {x : Refusal} where
-      pub tallied_stop : check_name (last_name text t) (between t.from end text) ≡ refuse x
-          → Refused x ≡ tallied documents text n ps end t
+      pub tallied_stop : check_name (last_name text t) (between t.from end text) ≡ Err x
+          → Err x ≡ tallied documents text n ps end t
       tallied_stop e = rw (tallied_used, e)
 
-      pub tallied_list_stop : check_name (last_name text t) (between t.from end text) ≡ ok tt
-          → check_postings documents none ps ≡ refuse x
-          → Refused x ≡ tallied documents text n ps end t
+      pub tallied_list_stop : check_name (last_name text t) (between t.from end text) ≡ Ok tt
+          → check_postings documents None ps ≡ Err x
+          → Err x ≡ tallied documents text n ps end t
       tallied_list_stop e f = rw (tallied_used, e, f)
 
-    pub tallied_next : {size : ℕ} → check_name (last_name text t) (between t.from end text) ≡ ok tt
-        → check_postings documents none ps ≡ ok tt → size ≡ length (postings_bytes none ps)
-        → Next (past_term t end size) ≡ tallied documents text n ps end t
+    pub tallied_next : {size : ℕ} → check_name (last_name text t) (between t.from end text) ≡ Ok tt
+        → check_postings documents None ps ≡ Ok tt → size ≡ length (postings_bytes None ps)
+        → Ok (past_term t end size) ≡ tallied documents text n ps end t
     tallied_next e f is = rw (tallied_used, e, f, is)
 
 -- ---- all sounds
@@ -76,12 +74,11 @@ module _ (documents : List Document) (text : List ℕ) (n : ℕ) (ps : List Post
 pub record TallyLeft (documents : List Document) (bars : List Bar) (text ends : List ℕ) (s : ℕ) (t : Tally) : Type 0 where
   pub few : s ≤ length ends
   pub fit : ends_fit t.from (drop s ends) (length text) ≡ true
-  pub last_order : t.before ≤ t.after
-  pub last_inside : t.after ≤ length text
+  pub last_inside : IfSome t.last (λ n. (n.from ≤ n.to) × (n.to ≤ length text))
   pub names_low : t.names ≤ t.from
   pub terms_low : t.terms ≤ s
   pub checks : check_terms documents (last_name text t) (terms_from bars text ends s t.from)
-      ≡ check_terms documents none (terms_from bars text ends 0 0)
+      ≡ check_terms documents None (terms_from bars text ends 0 0)
   pub count : t.terms + length (terms_from bars text ends s t.from) ≡ length (terms_from bars text ends 0 0)
   pub name_size : t.names + length (name_bytes (terms_from bars text ends s t.from))
       ≡ length (name_bytes (terms_from bars text ends 0 0))
@@ -90,38 +87,38 @@ pub record TallyLeft (documents : List Document) (bars : List Bar) (text ends : 
   pub lists_low : length (lists_bytes (terms_from bars text ends 0 0)) ≤ 251658240
 
 abbrev pub first_tally : Tally
-first_tally = record { terms = 0; names = 0; lists = 0; before = 0; after = 0; from = 0 }
+first_tally = record { terms = 0; names = 0; lists = 0; last = None; from = 0 }
 
 -- a term's checks together
-term_stops : (r q : Result (Unit {0})) (f : Unit {0} → Result (Unit {0})) (y x : Refusal) → (r >>= λ _. q) ≡ refuse x
-    → (r >>= λ _. check true y >>= λ _. q >>= f) ≡ refuse x
-term_stops (ok u) (ok v) f y x e = refuse_ok (sym e)
-term_stops (ok u) (refuse z) f y x e = e
-term_stops (refuse z) q f y x e = e
+term_stops : (r q : Answer (Unit {0})) (f : Unit {0} → Answer (Unit {0})) (y x : Refusal) → (r >>= λ _. q) ≡ Err x
+    → (r >>= λ _. check true y >>= λ _. q >>= f) ≡ Err x
+term_stops (Ok u) (Ok v) f y x e = refuse_ok (sym e)
+term_stops (Ok u) (Err z) f y x e = e
+term_stops (Err z) q f y x e = e
 
-term_goes : (r q : Result (Unit {0})) (f : Unit {0} → Result (Unit {0})) (y : Refusal) → (r >>= λ _. q) ≡ ok tt
+term_goes : (r q : Answer (Unit {0})) (f : Unit {0} → Answer (Unit {0})) (y : Refusal) → (r >>= λ _. q) ≡ Ok tt
     → (r >>= λ _. check true y >>= λ _. q >>= f) ≡ f tt
-term_goes (ok u) (ok v) f y e = refl
-term_goes (ok u) (refuse z) f y e = refuse_ok e
-term_goes (refuse z) q f y e = refuse_ok e
+term_goes (Ok u) (Ok v) f y e = refl
+term_goes (Ok u) (Err z) f y e = refuse_ok e
+term_goes (Err z) q f y e = refuse_ok e
 
 module _ (documents : List Document) (previous : Option (List ℕ)) (name : List ℕ) (ps : List Posting) (h : 0 < length ps)
     (ts : List Term) where
-  abbrev both : Result (Unit {0})
-  both = check_name previous name >>= λ _. check_postings documents none ps
+  abbrev both : Answer (Unit {0})
+  both = check_name previous name >>= λ _. check_postings documents None ps
 
-  terms_stop : {x : Refusal} → both ≡ refuse x → check_terms documents previous (term name ps ∷ ts) ≡ refuse x
+  terms_stop : {x : Refusal} → both ≡ Err x → check_terms documents previous (term name ps ∷ ts) ≡ Err x
   unfolding check_terms
   terms_stop {x} e =
       rw (lt-ltb 0 (length ps) h)
-      (term_stops (check_name previous name) (check_postings documents none ps) (λ _. check_terms documents (some name) ts)
+      (term_stops (check_name previous name) (check_postings documents None ps) (λ _. check_terms documents (Some name) ts)
       (invalid_layout empty_term_posting_list) x e)
 
-  terms_go : both ≡ ok tt → check_terms documents previous (term name ps ∷ ts) ≡ check_terms documents (some name) ts
+  terms_go : both ≡ Ok tt → check_terms documents previous (term name ps ∷ ts) ≡ check_terms documents (Some name) ts
   unfolding check_terms
   terms_go e =
       rw (lt-ltb 0 (length ps) h)
-      (term_goes (check_name previous name) (check_postings documents none ps) (λ _. check_terms documents (some name) ts)
+      (term_goes (check_name previous name) (check_postings documents None ps) (λ _. check_terms documents (Some name) ts)
       (invalid_layout empty_term_posting_list) e)
 
 -- one term more
@@ -139,8 +136,7 @@ module _ (documents : List Document) (bars : List Bar) (text ends : List ℕ) wh
   tally_begin fit low = record {
     few = omega arith;
     fit = fit;
-    last_order = omega arith;
-    last_inside = omega arith;
+    last_inside = tt;
     names_low = omega arith;
     terms_low = omega arith;
     checks = refl;
@@ -166,8 +162,8 @@ module _ (documents : List Document) (bars : List Bar) (text ends : List ℕ) wh
       abbrev coming : List Term
       coming = terms_from bars text ends (s + 1) end
 
-      pub tally_stop : {y : Refusal} → Refused y ≡ tallied documents text n ps end t
-          → check_terms documents none (terms_from bars text ends 0 0) ≡ refuse y
+      pub tally_stop : {y : Refusal} → Err y ≡ tallied documents text n ps end t
+          → check_terms documents None (terms_from bars text ends 0 0) ≡ Err y
       tally_stop e =
           ⊎_elim
           (λ (k : 0 < n).
@@ -183,7 +179,6 @@ module _ (documents : List Document) (bars : List Bar) (text ends : List ℕ) wh
           record {
             few = x.few;
             fit = x.rest;
-            last_order = l.last_order;
             last_inside = l.last_inside;
             names_low = omega (arith, l.names_low, x.order);
             terms_low = omega (arith, l.terms_low);
@@ -194,21 +189,19 @@ module _ (documents : List Document) (bars : List Bar) (text ends : List ℕ) wh
             lists_low = l.lists_low;
           }
 
-      used_next : 0 < n → check_sound documents text ps end t ≡ ok tt
-          → TallyLeft documents bars text ends (s + 1) (past_term t end (length (postings_bytes none ps)))
+      used_next : 0 < n → check_sound documents text ps end t ≡ Ok tt
+          → TallyLeft documents bars text ends (s + 1) (past_term t end (length (postings_bytes None ps)))
       used_next k u =
           let e = x.taken k in
           let name = between t.from end text in
           record {
             few = x.few;
             fit = x.rest;
-            last_order = x.order;
-            last_inside = x.inside;
+            last_inside = (x.order, x.inside);
             names_low = omega (arith, l.names_low, x.order);
             terms_low = omega (arith, l.terms_low);
             checks =
-                ap (λ (p : Option (List ℕ)). check_terms documents p coming) (earlier_next t.terms name)
-                ∙ sym (terms_go documents (last_name text t) name ps (omega (arith, x.count)) coming u)
+                sym (terms_go documents (last_name text t) name ps (omega (arith, x.count)) coming u)
                 ∙ ap (check_terms documents (last_name text t)) (sym e)
                 ∙ l.checks;
             count = omega (arith, rw e at l.count);
@@ -217,7 +210,7 @@ module _ (documents : List Document) (bars : List Bar) (text ends : List ℕ) wh
             lists_low = l.lists_low;
           }
 
-      pub tally_next : {t' : Tally} → Next t' ≡ tallied documents text n ps end t → TallyLeft documents bars text ends (s + 1) t'
+      pub tally_next : {t' : Tally} → Ok t' ≡ tallied documents text n ps end t → TallyLeft documents bars text ends (s + 1) t'
       tally_next {t'} e =
           ⊎_elim
           (λ (k : 0 < n).

@@ -1,14 +1,13 @@
 -- What the passes over the sounds measure and store, one sound at a time.
+use Rattle.std.specs.Prelude.{Err, IfSome, None, Ok, Option, Some, option_map}
 use Rattle.std.specs.Prelude.{ℕ, ◌+◌, ◌-◌, ◌*◌, ◌^◌, ◌≤◌, ◌<◌, ◌≡◌, true, cond, ◌&&◌, List, ◌++◌, map, ltb, leb, eqb, length, take, drop}
-use Rattle.std.proofs.Math.Option.{Option, none}
 use Rattle.std.proofs.lemmas.List.Edits.{sets}
 use Rattle.common.specs.Lists.{total}
 use Rattle.crc32.specs.Crc32.{crc32_of}
 use Rattle.crc32.specs.Parts.{all_taken_in}
 use Rattle.segment.specs.Records.{Document, Posting, Term, Given, between, header_size, entry_size}
 use Rattle.segment.specs.Refusals.{too_large, list_shape}
-use Rattle.segment.specs.Results.{Result, ok, refuse, ◌>>=◌, check}
-use Rattle.segment.specs.Steps.{earlier}
+use Rattle.segment.specs.Results.{Answer, ◌>>=◌, check}
 use Rattle.segment.specs.Texts.{ends_fit, names}
 use Rattle.segment.specs.Written.{entry_bytes, list_bytes, postings_bytes, directory_bytes, name_bytes, metadata_bytes, lists_bytes}
 use Rattle.segment.specs.Written.{segment_bytes}
@@ -22,8 +21,6 @@ use Rattle.pad_words.specs.Whole.{whole}
 use Rattle.pad_words.specs.Words.{held}
 use Rattle.pad_lists.specs.declared.sound.Gathered.{Gathered}
 use Rattle.pad_write.specs.declared.measure.Tally.{Tally}
-use Rattle.pad_write.specs.declared.measure.Tallied.{Tallied}
-use Rattle.pad_write.specs.declared.measure.Tallied.TheVariants.{Next, Refused}
 use Rattle.pad_write.specs.declared.store.Progress.{Progress}
 
 -- the terms of the sounds from one on; the next sound's name starts at `from` of the text
@@ -49,12 +46,12 @@ gathered posting_ids counts positions got =
 
 -- the name of the last sound with hits
 abbrev pub last_name : (text : List ℕ) → Tally → Option (List ℕ)
-last_name text t = earlier (eqb t.terms 0) (between t.before t.after text)
+last_name text t = option_map (λ n. between n.from n.to text) t.last
 
 -- past a sound without hits, whose name ends here
 abbrev pub past_sound : Tally → (end : ℕ) → Tally
 past_sound t end =
-    record { terms = t.terms; names = t.names; lists = t.lists; before = t.before; after = t.after; from = end }
+    record { terms = t.terms; names = t.names; lists = t.lists; last = t.last; from = end }
 
 -- past a sound with hits, whose list has this size
 abbrev pub past_term : Tally → (end size : ℕ) → Tally
@@ -62,27 +59,26 @@ past_term t end size = record {
   terms = t.terms + 1;
   names = t.names + (end - t.from);
   lists = t.lists + size;
-  before = t.from;
-  after = end;
+  last = Some (record { from = t.from; to = end });
   from = end;
 }
 
 -- on where a check passed
-abbrev pub going_on : Result (Unit {0}) → Tally → Tallied
-going_on (ok u) t = Next t
-going_on (refuse x) t = Refused x
+abbrev pub going_on : Answer (Unit {0}) → Tally → Answer Tally
+going_on (Ok u) t = Ok t
+going_on (Err x) t = Err x
 
 -- a sound with hits: its name, then its postings
-abbrev pub check_sound : (documents : List Document) (text : List ℕ) (postings : List Posting) (end : ℕ) → Tally → Result (Unit {0})
+abbrev pub check_sound : (documents : List Document) (text : List ℕ) (postings : List Posting) (end : ℕ) → Tally → Answer (Unit {0})
 check_sound documents text ps end t = do
   _ ← check_name (last_name text t) (between t.from end text)
-  check_postings documents none ps
+  check_postings documents None ps
 
 -- one sound with this number of postings
-unfoldable pub tallied : (documents : List Document) (text : List ℕ) (count : ℕ) (postings : List Posting) (end : ℕ) → Tally → Tallied
+unfoldable pub tallied : (documents : List Document) (text : List ℕ) (count : ℕ) (postings : List Posting) (end : ℕ) → Tally → Answer Tally
 tallied documents text n ps end t =
-    let used = going_on (check_sound documents text ps end t) (past_term t end (length (postings_bytes none ps))) in
-    cond (ltb 0 n) used (Next (past_sound t end))
+    let used = going_on (check_sound documents text ps end t) (past_term t end (length (postings_bytes None ps))) in
+    cond (ltb 0 n) used (Ok (past_sound t end))
 
 -- what the check of a sound rests on: its postings, its name, the last name, and sums that do not wrap
 pub record SoundMeasurable (ids lengths text posting_ids counts positions : List ℕ) (got : Gathered) (end : ℕ) (t : Tally) : Type 0 where
@@ -91,22 +87,21 @@ pub record SoundMeasurable (ids lengths text posting_ids counts positions : List
   pub lists : InLists posting_ids counts positions got
   pub name_order : t.from ≤ end
   pub name_inside : end ≤ length text
-  pub last_order : t.before ≤ t.after
-  pub last_inside : t.after ≤ length text
+  pub last_inside : IfSome t.last (λ n. (n.from ≤ n.to) × (n.to ≤ length text))
   pub names_low : t.names ≤ t.from
   pub terms_low : t.terms ≤ 128
   pub lists_low : t.lists ≤ 251658240
 
 -- all sounds: every check passed, and the sizes
 pub record TalliedAll (documents : List Document) (terms : List Term) (t : Tally) : Type 0 where
-  pub passed : check_terms documents none terms ≡ ok tt
+  pub passed : check_terms documents None terms ≡ Ok tt
   pub count : t.terms ≡ length terms
   pub name_size : t.names ≡ length (name_bytes terms)
   pub list_size : t.lists ≡ length (lists_bytes terms)
 
-abbrev pub TermsMeasured : (documents : List Document) (terms : List Term) → Tallied → Type 0
-TermsMeasured documents terms (Next t) = TalliedAll documents terms t
-TermsMeasured documents terms (Refused x) = check_terms documents none terms ≡ refuse x
+abbrev pub TermsMeasured : (documents : List Document) (terms : List Term) → Answer Tally → Type 0
+TermsMeasured documents terms (Ok t) = TalliedAll documents terms t
+TermsMeasured documents terms (Err x) = check_terms documents None terms ≡ Err x
 
 -- ---- stored
 
@@ -159,7 +154,7 @@ pub record SoundRoom (text posting_ids counts positions : List ℕ) (got : Gathe
   pub name_order : p.from ≤ end
   pub name_inside : end ≤ length text
   pub used : 0 < got.postings
-      → TermRoom names_at lists_at (postings_bytes none (gathered posting_ids counts positions got)) (end - p.from) out p
+      → TermRoom names_at lists_at (postings_bytes None (gathered posting_ids counts positions got)) (end - p.from) out p
 
 -- all terms; answered is the lists' checksum
 pub record TermsStored (names_at lists_at : ℕ) (terms : List Term) (out : List ℕ) (r : ℕ) (out' : List ℕ) : Type 0 where
@@ -195,15 +190,15 @@ pub record DocumentsGiven (pad ids lengths : List ℕ) : Type 0 where
   pub lengths_are : lengths ≡ map (λ b. b.len) (held pad)
 
 -- all sounds measured; the lists are as long as before
-pub record SoundsMeasured (documents : List Document) (terms : List Term) (r : Tallied) (posting_ids' counts' positions' : List ℕ) : Type 0
-  where
-    pub answer : TermsMeasured documents terms r
-    pub long : ListsLong posting_ids' counts' positions'
+pub record SoundsMeasured (documents : List Document) (terms : List Term) (r : Answer Tally) (posting_ids' counts' positions' : List ℕ)
+    : Type 0 where
+  pub answer : TermsMeasured documents terms r
+  pub long : ListsLong posting_ids' counts' positions'
 
 -- ---- the call
 
 -- kinds 12 and 11: the length of text and ends, then as many ends as sounds, and the text's shape
-unfoldable pub check_text : (text ends : List ℕ) → Result (Unit {0})
+unfoldable pub check_text : (text ends : List ℕ) → Answer (Unit {0})
 check_text text ends = do
   _ ← check (leb (length text) 16777216 && leb (length ends) 16777216) too_large
   check (eqb (length ends) 128 && ends_fit 0 ends (length text)) list_shape
@@ -213,7 +208,7 @@ pub record SegmentRoom (g : Given) (out : List ℕ) (terms : ℕ) (at : Offsets)
   pub count : terms ≡ length g.terms
   pub names : at.names ≡ header_size + entry_size * length g.terms
   pub metadata : at.metadata ≡ at.names + length (name_bytes g.terms)
-  pub lists : at.lists ≡ at.metadata + length (metadata_bytes none g.documents)
+  pub lists : at.lists ≡ at.metadata + length (metadata_bytes None g.documents)
   pub end : at.end ≡ at.lists + length (lists_bytes g.terms)
   pub room : at.end ≤ length out
 

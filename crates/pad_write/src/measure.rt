@@ -10,11 +10,16 @@ ghost use Rattle.pad_write.specs.Steps.{gathered, tallied, SoundMeasurable, PadA
 
 use common::widths::long;
 use pad_lists::sound::{Gathered, gather_sound};
-use segment::checked::Checked;
 use segment::refusal::Refusal;
 use write_check_all::lists::measure_postings;
 use write_checks::check::check_name;
-use write_checks::measure::Measured;
+
+// Where a name lies in the text.
+#[derive(Clone, Copy)]
+pub struct Span {
+    pub from: usize,
+    pub to: usize,
+}
 
 // The sounds with hits so far: how many, the bytes of their names and posting lists, and where the last one's name lies in the text. The
 // next sound's name starts at `from`, whether or not it has hits.
@@ -23,16 +28,8 @@ pub struct Tally {
     pub terms: usize,
     pub names: usize,
     pub lists: usize,
-    pub before: usize,
-    pub after: usize,
+    pub last: Option<Span>,
     pub from: usize,
-}
-
-// The sounds so far, or the first refusal.
-#[derive(Clone, Copy)]
-pub enum Tallied {
-    Next(Tally),
-    Refused(Refusal),
 }
 
 // One sound, whose name ends at `end`: without hits it is passed over, its name too.
@@ -46,50 +43,32 @@ fn measure_sound(
     got: Gathered,
     end: usize,
     tally: Tally,
-) -> Tallied
+) -> Result<Tally, Refusal>
     requires { SoundMeasurable ids.now lengths.now text.now posting_ids.now counts.now positions.now got end tally }
     ensures { result ≡ tallied (paired document ids.now lengths.now) text.now got.postings
         (gathered posting_ids.now counts.now positions.now got) end tally }
 {
     let n = got.postings;
-    let k = got.positions;
-    let before = tally.before;
-    let after = tally.after;
-    let from = tally.from;
     if n == 0 {
-        return Tallied::Next(Tally {
-            terms: tally.terms,
-            names: tally.names,
-            lists: tally.lists,
-            before: before,
-            after: after,
-            from: end,
-        });
+        return Ok(Tally { from: end, ..tally });
     }
-    if let Checked::Refused(x) = check_name(
-        tally.terms == 0,
-        &text[before..after],
-        &text[from..end],
-    ) {
-        return Tallied::Refused(x);
-    }
-    match measure_postings(
+    let from = tally.from;
+    let last = tally.last.map(|last| &text[last.from..last.to]);
+    check_name(last, &text[from..end])?;
+    let size = measure_postings(
         ids,
         lengths,
         &posting_ids[..n],
         &counts[..n],
-        &positions[..k],
-    ) {
-        Measured::Size(size) => Tallied::Next(Tally {
-            terms: tally.terms + 1,
-            names: tally.names + (end - from),
-            lists: tally.lists + size,
-            before: from,
-            after: end,
-            from: end,
-        }),
-        Measured::Refused(x) => Tallied::Refused(x),
-    }
+        &positions[..got.positions],
+    )?;
+    Ok(Tally {
+        terms: tally.terms + 1,
+        names: tally.names + (end - from),
+        lists: tally.lists + size,
+        last: Some(Span { from, to: end }),
+        from: end,
+    })
 }
 
 // All sounds. The three lists are lent to hold one sound after the other.
@@ -102,23 +81,21 @@ pub fn measure_sounds(
     posting_ids: &mut [u32; 256],
     counts: &mut [u32; 256],
     positions: &mut [u32; 8192],
-) -> Tallied
+) -> Result<Tally, Refusal>
     requires { PadAndNames pad.now text.now ends.now posting_ids.old counts.old positions.old
         × DocumentsGiven pad.now ids.now lengths.now }
     ensures { SoundsMeasured (paired document ids.now lengths.now)
         (terms_of 0 (names 0 ends.now text.now) (held pad.now)) result posting_ids.new counts.new positions.new }
 {
-    let mut cursors: [u32; 256] = [0; 256];
+    let mut cursors = [0; 256];
     let mut tally = Tally {
         terms: 0,
         names: 0,
         lists: 0,
-        before: 0,
-        after: 0,
+        last: None,
         from: 0,
     };
-    let mut sound: usize = 0;
-    while sound < ends.len() {
+    for sound in 0..ends.len() {
         let end = long(ends[sound]);
         let got = gather_sound(
             pad,
@@ -128,7 +105,7 @@ pub fn measure_sounds(
             counts,
             positions,
         );
-        tally = match measure_sound(
+        tally = measure_sound(
             ids,
             lengths,
             text,
@@ -138,13 +115,7 @@ pub fn measure_sounds(
             got,
             end,
             tally,
-        ) {
-            Tallied::Next(next) => next,
-            Tallied::Refused(x) => {
-                return Tallied::Refused(x);
-            }
-        };
-        sound += 1;
+        )?;
     }
-    Tallied::Next(tally)
+    Ok(tally)
 }

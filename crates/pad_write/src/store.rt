@@ -43,36 +43,32 @@ fn put_sound(
         (gathered posting_ids.now counts.now positions.now got) got.postings end out.old at result out.new }
 {
     let n = got.postings;
-    let k = got.positions;
-    let from = at.from;
-    let list = at.list;
-    let name = at.name;
     if n == 0 {
-        return Progress {
-            list: list,
-            entry: at.entry,
-            name: name,
-            run: at.run,
-            from: end,
-        };
+        return Progress { from: end, ..at };
     }
-    let past_list = put_postings(&posting_ids[..n], &counts[..n], &positions[..k], out, list);
+    let past_list = put_postings(
+        &posting_ids[..n],
+        &counts[..n],
+        &positions[..got.positions],
+        out,
+        at.list,
+    );
     let past = put_entry(
         out,
         at.entry,
-        name,
-        end - from,
+        at.name,
+        end - at.from,
         lists_at,
-        list,
+        at.list,
         past_list,
         n as u32,
         at.run,
     );
-    put_bytes(out, names_at + name, &text[from..end]);
+    put_bytes(out, names_at + at.name, &text[at.from..end]);
     Progress {
         list: past_list,
         entry: past.entry,
-        name: name + (end - from),
+        name: at.name + (end - at.from),
         run: past.run,
         from: end,
     }
@@ -95,7 +91,7 @@ pub fn put_sounds(
     ensures { TermsStored names_at lists_at (terms_of 0 (names 0 ends.now text.now) (held pad.now)) out.old result
         out.new }
 {
-    let mut cursors: [u32; 256] = [0; 256];
+    let mut cursors = [0; 256];
     let mut at = Progress {
         list: lists_at,
         entry: HEADER_SIZE,
@@ -103,8 +99,7 @@ pub fn put_sounds(
         run: START,
         from: 0,
     };
-    let mut sound: usize = 0;
-    while sound < ends.len() {
+    for sound in 0..ends.len() {
         let end = long(ends[sound]);
         let got = gather_sound(
             pad,
@@ -126,7 +121,6 @@ pub fn put_sounds(
             lists_at,
             at,
         );
-        sound += 1;
     }
     finish(at.run)
 }

@@ -7,7 +7,7 @@ ghost use Rattle.pad_record.specs.Promise.{BarSaved, BarErased};
 ghost use Rattle.pad_write.specs.Promise.{PadWritten};
 ghost use Rattle.c_reply.specs.Replies.{Replied, counted_reply, written_reply, bar_read_reply, hits_reply};
 
-use c_reply::reply::{Reply, of_bar_read, of_counted, of_hits, of_written};
+use c_reply::reply::{Reply, of_bar_read, of_counted, of_hits};
 use pad_read::hits::pad_hits;
 use pad_read::read::pad_read;
 use pad_record::erase::pad_erase;
@@ -61,5 +61,5 @@ pub fn pstp_pad_hits(pad: &[u32]) -> Reply
 pub fn pstp_pad_write(pad: &[u32], text: &[u8], ends: &[u32], out: &mut [u8]) -> Reply
     ensures { Replied written_reply (λ a. PadWritten pad.now text.now ends.now out.old a out.new) result }
 {
-    of_written(pad_write(pad, text, ends, out))
+    of_counted(pad_write(pad, text, ends, out))
 }

@@ -2,7 +2,7 @@
 ghost use Rattle.write_records.specs.Promise.{taken_apart, WroteRecords};
 ghost use Rattle.c_reply.specs.Replies.{Replied, written_reply};
 
-use c_reply::reply::{Reply, of_written};
+use c_reply::reply::{Reply, of_counted};
 use write_records::exchange::DocumentLength;
 use write_records::write::write_positional_segment_records;
 
@@ -24,7 +24,7 @@ pub fn pstp_write_positional_segment_records(
         (taken_apart documents.old text.now ends.now posting_counts.now posting_ids.now position_counts.now
         positions.now) documents.old ids.old lengths.old out.old a documents.new ids.new lengths.new out.new) result }
 {
-    of_written(write_positional_segment_records(
+    of_counted(write_positional_segment_records(
         documents,
         ids,
         lengths,

@@ -3,7 +3,7 @@ ghost use Rattle.calls.specs.Given.{given_lists};
 ghost use Rattle.write_segment.specs.Promise.{Wrote};
 ghost use Rattle.c_reply.specs.Replies.{Replied, written_reply};
 
-use c_reply::reply::{Reply, of_written};
+use c_reply::reply::{Reply, of_counted};
 use write_segment::write::write_positional_segment;
 
 // first: how many bytes were written: documents and terms as a segment, at the slice's front.
@@ -21,7 +21,7 @@ pub fn pstp_write_positional_segment(
     ensures { Replied written_reply (λ a. Wrote
         (given_lists ids lengths text ends posting_counts posting_ids position_counts positions) out.old a out.new) result }
 {
-    of_written(write_positional_segment(
+    of_counted(write_positional_segment(
         ids,
         lengths,
         text,

@@ -1,8 +1,8 @@
 -- The counts of the postings of a list, added up: no fewer than the positions that are there, and just as many in a list that decodes.
 -- Assumes nothing.
+use Rattle.std.specs.Prelude.{None}
 use mathlib.Core.Path.{◌≡◌, refl, sym, ap, ◌∙◌}
 use mathlib.Core.List.{List, [], ◌∷◌, map}
-use mathlib.Core.Option.{none}
 use Prim.Native.Nat.{ℕ, ◌+◌, ◌≤◌, ◌<◌}
 use native.Mathlib.Omega.{arith}
 use lib.ListN.{length, drop, length-append}
@@ -38,7 +38,7 @@ positions_within (s ∷ ss) =
     omega (
       arith,
       length-append (positions_there s) (all_positions ss),
-      positions_few s.count none s.bytes,
+      positions_few s.count None s.bytes,
       positions_within ss,
     )
 
@@ -49,7 +49,7 @@ lengths_total (p ∷ ps) = ap (λ (n : ℕ). length p.positions + n) (lengths_to
 
 -- a decoded list has as many positions as its counts say
 pub list_counted : {bytes name : List ℕ} {start df positions n : ℕ} → ListIsDecoded bytes name start df positions
-    → n ≡ counts_in (held_postings df none (drop start bytes)) → ListIsDecoded bytes name start df n
+    → n ≡ counts_in (held_postings df None (drop start bytes)) → ListIsDecoded bytes name start df n
 list_counted d is = record {
   postings = d.postings;
   decoded = d.decoded;

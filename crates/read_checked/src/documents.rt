@@ -5,26 +5,20 @@ use handle::handle::{Handle, usable};
 use read_cursors::documents::Documents;
 use read_documents::documents::document_len;
 use segment::ids::DocId;
-use segment::replies::Length;
+use segment::refusal::Refusal;
 
 // The length of one document, or that it is unknown: the metadata is walked.
-pub fn document_len_checked(bytes: &[u8], h: Handle, id: DocId) -> Length
+pub fn document_len_checked(bytes: &[u8], h: Handle, id: DocId) -> Result<Option<u32>, Refusal>
     ensures { LengthChecked bytes.now h id.0 result }
 {
     if !usable(bytes, h) {
         return document_len(bytes, id);
     }
-    let metadata = h.metadata;
-    let lists = h.lists;
-    let meta = &bytes[metadata..lists];
+    let meta = &bytes[h.metadata..h.lists];
     let first = Documents::start(meta, h.documents);
     let here = first.seek(meta, id);
-    let found = here.id;
-    if here.remaining == 0 {
-        return Length::Absent;
+    if here.remaining == 0 || here.id.0 != id.0 {
+        return Ok(None);
     }
-    if found.0 != id.0 {
-        return Length::Absent;
-    }
-    Length::Known(here.len)
+    Ok(Some(here.len))
 }

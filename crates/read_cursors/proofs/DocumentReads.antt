@@ -1,38 +1,37 @@
 -- A document read, in the order of the code's tests.
 -- Assumes nothing.
+use Rattle.std.specs.Prelude.{Err, None, Ok, Option, Some}
 use mathlib.Core.Path.{◌≡◌, refl, ap, ◌∙◌}
 use mathlib.Core.List.{List}
-use mathlib.Core.Option.{Option, none, some}
 use Prim.Native.Nat.{ℕ, ◌+◌, ◌^◌, ◌≤◌, ◌<◌}
 use lib.Dec.{ltb}
 use lib.ListN.{drop}
 use borrow.Author.Tests.{lt-ltb, le-ltb}
 use Rattle.leb128.specs.declared.varint.Number.{Number}
-use Rattle.leb128.specs.declared.varint.Decoded.TheVariants.{Value, Refused}
 use Rattle.leb128.specs.Leb128.{stored}
 use Rattle.leb128.specs.Promise.{decoded_at}
 use Rattle.segment.specs.Refusals.{document_metadata, invalid_varint, doc_id_overflow, invalid_layout, non_increasing_document_id}
-use Rattle.segment.specs.Results.{ok, refuse, check}
+use Rattle.segment.specs.Results.{check}
 use Rattle.segment.specs.Records.{Document, Read, number, at_gap}
 use Rattle.segment.specs.Metadata.{document, read_document}
 use Rattle.segment.proofs.Binds.{carried, carried_ok, carried_bind, carried_check}
 use Rattle.read_cursors.proofs.Gaps.{number_refused, number_value, number_taken, carried_number}
 
 module _ (place : ℕ) (s : List ℕ) (at : ℕ) where
-  pub document_none : (previous : Option ℕ) → decoded_at s at ≡ Refused
-      → refuse (invalid_varint document_metadata place) ≡ read_document place previous (drop at s)
+  pub document_none : (previous : Option ℕ) → decoded_at s at ≡ None
+      → Err (invalid_varint document_metadata place) ≡ read_document place previous (drop at s)
   unfolding read_document
   document_none previous e = rw (number_refused s at document_metadata place e)
 
-  module _ {g : Number} (e : decoded_at s at ≡ Value g) where
-    pub document_half : (previous : Option ℕ) → decoded_at s g.next.at ≡ Refused
-        → refuse (invalid_varint document_metadata place) ≡ read_document place previous (drop at s)
+  module _ {g : Number} (e : decoded_at s at ≡ Some g) where
+    pub document_half : (previous : Option ℕ) → decoded_at s g.next.at ≡ None
+        → Err (invalid_varint document_metadata place) ≡ read_document place previous (drop at s)
     unfolding read_document
     document_half previous f = rw (number_value s at document_metadata place e, number_refused s g.next.at document_metadata place f)
 
-    module _ {l : Number} (f : decoded_at s g.next.at ≡ Value l) where
-      pub document_first : ok (record { got = document g.value l.value; rest = drop l.next.at s })
-          ≡ read_document place none (drop at s)
+    module _ {l : Number} (f : decoded_at s g.next.at ≡ Some l) where
+      pub document_first : Ok (record { got = document g.value l.value; rest = drop l.next.at s })
+          ≡ read_document place None (drop at s)
       unfolding read_document
       document_first =
           rw (
@@ -42,7 +41,7 @@ module _ (place : ℕ) (s : List ℕ) (at : ℕ) where
           )
 
       module _ (p : ℕ) where
-        pub document_over : 2 ^ 32 ≤ p + g.value → refuse (doc_id_overflow place) ≡ read_document place (some p) (drop at s)
+        pub document_over : 2 ^ 32 ≤ p + g.value → Err (doc_id_overflow place) ≡ read_document place (Some p) (drop at s)
         unfolding read_document
         document_over h =
             rw (
@@ -53,7 +52,7 @@ module _ (place : ℕ) (s : List ℕ) (at : ℕ) where
 
         module _ (h : p + g.value < 2 ^ 32) where
           pub document_low : p + g.value ≤ p
-              → refuse (invalid_layout non_increasing_document_id) ≡ read_document place (some p) (drop at s)
+              → Err (invalid_layout non_increasing_document_id) ≡ read_document place (Some p) (drop at s)
           unfolding read_document
           document_low k =
               rw (
@@ -64,8 +63,8 @@ module _ (place : ℕ) (s : List ℕ) (at : ℕ) where
               )
 
           pub document_next : p < p + g.value
-              → ok (record { got = document (p + g.value) l.value; rest = drop l.next.at s })
-              ≡ read_document place (some p) (drop at s)
+              → Ok (record { got = document (p + g.value) l.value; rest = drop l.next.at s })
+              ≡ read_document place (Some p) (drop at s)
           unfolding read_document
           document_next k =
               rw (
@@ -89,6 +88,6 @@ any_place i j previous bytes =
     carried_bind (check t (doc_id_overflow i)) (check t (doc_id_overflow j)) _ _ (carried_check t (doc_id_overflow i) (doc_id_overflow j))
     (λ u. refl)))
 
-pub elsewhere : (i j : ℕ) (previous : Option ℕ) (bytes : List ℕ) {d : Read Document} → read_document i previous bytes ≡ ok d
-    → read_document j previous bytes ≡ ok d
+pub elsewhere : (i j : ℕ) (previous : Option ℕ) (bytes : List ℕ) {d : Read Document} → read_document i previous bytes ≡ Ok d
+    → read_document j previous bytes ≡ Ok d
 elsewhere i j previous bytes e = carried_ok (read_document j previous bytes) (any_place j i previous bytes ∙ ap carried e)

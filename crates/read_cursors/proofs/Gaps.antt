@@ -1,9 +1,10 @@
 -- A stored number by its offset in a slice is the definitions' number off the front of a list.
 -- Assumes nothing.
+use Rattle.segment.specs.declared.refusal.Section.{Section}
+use Rattle.std.specs.Prelude.{Err, None, Ok, Option, Some}
 use mathlib.Core.Path.{◌≡◌, refl, sym, ap, ◌∙◌}
 use mathlib.Core.List.{List, [], ◌∷◌}
 use mathlib.Core.Bool.{Bool, true, false, cond}
-use mathlib.Core.Option.{Option, none, some}
 use Prim.Native.Nat.{ℕ, suc, ◌+◌, ◌-◌, ◌^◌, ◌≤◌, ◌<◌}
 use native.Mathlib.Omega.{arith}
 use lib.Dec.{ltb}
@@ -11,7 +12,6 @@ use lib.ListN.{length, drop, length-drop}
 use lib.Seq.{drop-drop}
 use borrow.Author.Tests.{lt-ltb, le-ltb}
 use Rattle.leb128.specs.declared.varint.Number.{Number}
-use Rattle.leb128.specs.declared.varint.Decoded.TheVariants.{Value, Refused}
 use Rattle.leb128.specs.Leb128.{Leb, below, uleb128, stored}
 use Rattle.leb128.specs.Promise.{decoded, decoded_at}
 use Rattle.common.proofs.Loops.{left_suc, left_none}
@@ -19,34 +19,33 @@ use Rattle.leb128.proofs.Numbers.{size_pos}
 use Rattle.leb128.proofs.Shortest.{accepted_exactly}
 use Rattle.segment.specs.declared.refusal.Refusal.{Refusal}
 use Rattle.segment.specs.Refusals.{postings, invalid_varint}
-use Rattle.segment.specs.Results.{ok, refuse}
 use Rattle.segment.specs.Records.{Read, number, number_or, at_gap, rises}
 use Rattle.segment.specs.Postings.{read_value}
 use Rattle.read_cursors.specs.Held.{past, skipped}
 use Rattle.segment.proofs.Binds.{refuse_ok, ok_same, bind_gives, both_gives, carried}
 
 -- a number takes no more bytes than there are
-below_fits : (b m : ℕ) (o : Option Leb) (t : Bool) (r : Leb) → cond t (some (record { value = b; size = 1 })) (below b o) ≡ some r
-    → ((q : Leb) → o ≡ some q → q.size ≤ m) → r.size ≤ suc m
+below_fits : (b m : ℕ) (o : Option Leb) (t : Bool) (r : Leb) → cond t (Some (record { value = b; size = 1 })) (below b o) ≡ Some r
+    → ((q : Leb) → o ≡ Some q → q.size ≤ m) → r.size ≤ suc m
 below_fits b m o true r e ih = let f : 1 ≡ r.size = cc in omega arith
-below_fits b m none false r e ih = let z : ◌≡◌ {A = ℕ} 0 1 = cc in absurd (omega arith)
-below_fits b m (some q) false r e ih = let f : suc q.size ≡ r.size = cc in omega (arith, ih q refl)
+below_fits b m None false r e ih = let z : ◌≡◌ {A = ℕ} 0 1 = cc in absurd (omega arith)
+below_fits b m (Some q) false r e ih = let f : suc q.size ≡ r.size = cc in omega (arith, ih q refl)
 
-pub size_fits : (l : List ℕ) (r : Leb) → uleb128 l ≡ some r → r.size ≤ length l
+pub size_fits : (l : List ℕ) (r : Leb) → uleb128 l ≡ Some r → r.size ≤ length l
 unfolding uleb128
 size_fits [] r e = let z : ◌≡◌ {A = ℕ} 0 1 = cc in absurd (omega arith)
 size_fits (b ∷ l) r e = below_fits b (length l) (uleb128 l) (ltb b 128) r e (λ q f. size_fits l q f)
 
-stored_fits : (bytes : List ℕ) (r : Leb) → stored bytes ≡ some r → (1 ≤ r.size) × (r.size ≤ length bytes) × (r.value < 2 ^ 32)
+stored_fits : (bytes : List ℕ) (r : Leb) → stored bytes ≡ Some r → (1 ≤ r.size) × (r.size ≤ length bytes) × (r.value < 2 ^ 32)
 stored_fits bytes r e =
     let a = (accepted_exactly bytes r.value r.size).0 e in
     (size_pos bytes r a.0, size_fits bytes r a.0, a.2)
 
 -- the index of a number shows in its refusal alone
-pub carried_number : (section i j : ℕ) (bytes : List ℕ) (o : Option Leb)
+pub carried_number : (section : Section) (i j : ℕ) (bytes : List ℕ) (o : Option Leb)
     → carried (number_or section i bytes o) ≡ carried (number_or section j bytes o)
-carried_number section i j bytes none = refl
-carried_number section i j bytes (some r) = refl
+carried_number section i j bytes None = refl
+carried_number section i j bytes (Some r) = refl
 
 -- where a number was read: below 2^32, of at least one byte, and inside the slice
 pub record Taken (s : List ℕ) (at : ℕ) (n : Number) : Type 0 where
@@ -55,37 +54,37 @@ pub record Taken (s : List ℕ) (at : ℕ) (n : Number) : Type 0 where
   pub inside : n.next.at ≤ length s
 
 module _ (s : List ℕ) (at : ℕ) where
-  refused_or : (section i : ℕ) (o : Option Leb) → decoded at o ≡ Refused
-      → number_or section i (drop at s) o ≡ refuse (invalid_varint section i)
-  refused_or section i none e = refl
-  refused_or section i (some r) e = let z : ◌≡◌ {A = ℕ} 0 1 = cc in absurd (omega arith)
+  refused_or : (section : Section) (i : ℕ) (o : Option Leb) → decoded at o ≡ None
+      → number_or section i (drop at s) o ≡ Err (invalid_varint section i)
+  refused_or section i None e = refl
+  refused_or section i (Some r) e = let z : ◌≡◌ {A = ℕ} 0 1 = cc in absurd (omega arith)
 
-  pub number_refused : (section i : ℕ) → decoded_at s at ≡ Refused → number section i (drop at s) ≡ refuse (invalid_varint section i)
+  pub number_refused : (section : Section) (i : ℕ) → decoded_at s at ≡ None → number section i (drop at s) ≡ Err (invalid_varint section i)
   number_refused section i e = refused_or section i (stored (drop at s)) e
 
   module _ {n : Number} where
-    fields : (r : Leb) → decoded at (some r) ≡ Value n → (r.value ≡ n.value) × (at + r.size ≡ n.next.at)
+    fields : (r : Leb) → decoded at (Some r) ≡ Some n → (r.value ≡ n.value) × (at + r.size ≡ n.next.at)
     fields r e =
         let q : record { value = r.value; next = record { at = at + r.size } } ≡ n = cc in
         (ap (λ (x : Number). x.value) q, ap (λ (x : Number). x.next.at) q)
 
-    value_or : (section i : ℕ) (o : Option Leb) → decoded at o ≡ Value n
-        → number_or section i (drop at s) o ≡ ok (record { got = n.value; rest = drop n.next.at s })
-    value_or section i none e = let z : ◌≡◌ {A = ℕ} 0 1 = cc in absurd (omega arith)
-    value_or section i (some r) e = rw (drop-drop, (fields r e).0, (fields r e).1)
+    value_or : (section : Section) (i : ℕ) (o : Option Leb) → decoded at o ≡ Some n
+        → number_or section i (drop at s) o ≡ Ok (record { got = n.value; rest = drop n.next.at s })
+    value_or section i None e = let z : ◌≡◌ {A = ℕ} 0 1 = cc in absurd (omega arith)
+    value_or section i (Some r) e = rw (drop-drop, (fields r e).0, (fields r e).1)
 
-    pub number_value : (section i : ℕ) → decoded_at s at ≡ Value n
-        → number section i (drop at s) ≡ ok (record { got = n.value; rest = drop n.next.at s })
+    pub number_value : (section : Section) (i : ℕ) → decoded_at s at ≡ Some n
+        → number section i (drop at s) ≡ Ok (record { got = n.value; rest = drop n.next.at s })
     number_value section i e = value_or section i (stored (drop at s)) e
 
-    taken_of : (o : Option Leb) → stored (drop at s) ≡ o → decoded at o ≡ Value n → Taken s at n
-    taken_of none u e = let z : ◌≡◌ {A = ℕ} 0 1 = cc in absurd (omega arith)
-    taken_of (some r) u e =
+    taken_of : (o : Option Leb) → stored (drop at s) ≡ o → decoded at o ≡ Some n → Taken s at n
+    taken_of None u e = let z : ◌≡◌ {A = ℕ} 0 1 = cc in absurd (omega arith)
+    taken_of (Some r) u e =
         let f = fields r e in
         let g = stored_fits (drop at s) r u in
         record { small = omega arith; onward = omega arith; inside = omega (arith, length-drop at s) }
 
-    pub number_taken : decoded_at s at ≡ Value n → Taken s at n
+    pub number_taken : decoded_at s at ≡ Some n → Taken s at n
     number_taken e = taken_of (stored (drop at s)) refl e
 
 -- what was read is below 2^32, and gone from the front
@@ -93,20 +92,20 @@ pub record Given (bytes : List ℕ) (n : Read ℕ) : Type 0 where
   pub small : n.got < 2 ^ 32
   pub shorter : length n.rest < length bytes
 
-module _ (section i : ℕ) (bytes : List ℕ) {n : Read ℕ} where
-  given_of : (o : Option Leb) → stored bytes ≡ o → number_or section i bytes o ≡ ok n → Given bytes n
-  given_of none u e = refuse_ok e
-  given_of (some r) u e =
+module _ (section : Section) (i : ℕ) (bytes : List ℕ) {n : Read ℕ} where
+  given_of : (o : Option Leb) → stored bytes ≡ o → number_or section i bytes o ≡ Ok n → Given bytes n
+  given_of None u e = refuse_ok e
+  given_of (Some r) u e =
       let f = ap (λ (x : Read ℕ). x.got) (ok_same e) in
       let g = ap (λ (x : Read ℕ). length x.rest) (ok_same e) in
       let h = stored_fits bytes r u in
       record { small = omega arith; shorter = omega (arith, length-drop r.size bytes) }
 
-  pub number_given : number section i bytes ≡ ok n → Given bytes n
+  pub number_given : number section i bytes ≡ Ok n → Given bytes n
   number_given e = given_of (stored bytes) refl e
 
 pub value_shorter : (over order : Refusal) (i : ℕ) (previous : Option ℕ) (bytes : List ℕ) {n : Read ℕ}
-    → read_value over order i previous bytes ≡ ok n
+    → read_value over order i previous bytes ≡ Ok n
     → length n.rest < length bytes
 unfolding read_value
 value_shorter over order i previous bytes {n} e =
@@ -121,39 +120,39 @@ further s a b h = omega (arith, length-drop a s, length-drop b s)
 
 -- a value that rises, in the order of the code's tests
 module _ (over order : Refusal) (i : ℕ) (s : List ℕ) (at : ℕ) where
-  pub value_none : (previous : Option ℕ) → decoded_at s at ≡ Refused
-      → refuse (invalid_varint postings i) ≡ read_value over order i previous (drop at s)
+  pub value_none : (previous : Option ℕ) → decoded_at s at ≡ None
+      → Err (invalid_varint postings i) ≡ read_value over order i previous (drop at s)
   unfolding read_value
   value_none previous e = rw (number_refused s at postings i e)
 
-  module _ {n : Number} (e : decoded_at s at ≡ Value n) where
-    pub value_first : ok (record { got = n.value; rest = drop n.next.at s }) ≡ read_value over order i none (drop at s)
+  module _ {n : Number} (e : decoded_at s at ≡ Some n) where
+    pub value_first : Ok (record { got = n.value; rest = drop n.next.at s }) ≡ read_value over order i None (drop at s)
     unfolding read_value
     value_first = rw (number_value s at postings i e, lt-ltb n.value (2 ^ 32) (number_taken s at e).small)
 
     module _ (p : ℕ) where
-      pub value_over : 2 ^ 32 ≤ p + n.value → refuse over ≡ read_value over order i (some p) (drop at s)
+      pub value_over : 2 ^ 32 ≤ p + n.value → Err over ≡ read_value over order i (Some p) (drop at s)
       unfolding read_value
       value_over h = rw (number_value s at postings i e, le-ltb (p + n.value) (2 ^ 32) h)
 
-      pub value_low : p + n.value < 2 ^ 32 → p + n.value ≤ p → refuse order ≡ read_value over order i (some p) (drop at s)
+      pub value_low : p + n.value < 2 ^ 32 → p + n.value ≤ p → Err order ≡ read_value over order i (Some p) (drop at s)
       unfolding read_value
       value_low h k = rw (number_value s at postings i e, lt-ltb (p + n.value) (2 ^ 32) h, le-ltb p (p + n.value) k)
 
       pub value_next : p + n.value < 2 ^ 32 → p < p + n.value
-          → ok (record { got = p + n.value; rest = drop n.next.at s }) ≡ read_value over order i (some p) (drop at s)
+          → Ok (record { got = p + n.value; rest = drop n.next.at s }) ≡ read_value over order i (Some p) (drop at s)
       unfolding read_value
       value_next h k = rw (number_value s at postings i e, lt-ltb (p + n.value) (2 ^ 32) h, lt-ltb p (p + n.value) k)
 
 -- past a number, or nowhere
 module _ (s : List ℕ) (at : ℕ) (next : List ℕ → List ℕ) where
-  past_value_or : {n : Number} (o : Option Leb) → decoded at o ≡ Value n → past next (drop at s) o ≡ next (drop n.next.at s)
-  past_value_or none e = let z : ◌≡◌ {A = ℕ} 0 1 = cc in absurd (omega arith)
-  past_value_or (some r) e = rw (drop-drop, (fields s at r e).1)
+  past_value_or : {n : Number} (o : Option Leb) → decoded at o ≡ Some n → past next (drop at s) o ≡ next (drop n.next.at s)
+  past_value_or None e = let z : ◌≡◌ {A = ℕ} 0 1 = cc in absurd (omega arith)
+  past_value_or (Some r) e = rw (drop-drop, (fields s at r e).1)
 
-  past_refused_or : (o : Option Leb) → decoded at o ≡ Refused → past next (drop at s) o ≡ drop at s
-  past_refused_or none e = refl
-  past_refused_or (some r) e = let z : ◌≡◌ {A = ℕ} 0 1 = cc in absurd (omega arith)
+  past_refused_or : (o : Option Leb) → decoded at o ≡ None → past next (drop at s) o ≡ drop at s
+  past_refused_or None e = refl
+  past_refused_or (Some r) e = let z : ◌≡◌ {A = ℕ} 0 1 = cc in absurd (omega arith)
 
 -- a turn of a loop over numbers that are skipped
 module _ (s : List ℕ) (count i at : ℕ) {whole : List ℕ} (inv : skipped (count - i) (drop at s) ≡ whole) where
@@ -161,10 +160,10 @@ module _ (s : List ℕ) (count i at : ℕ) {whole : List ℕ} (inv : skipped (co
   unfolding skipped
   skip_turn h = rw (left_suc count i h) at inv
 
-  pub skip_next : {n : Number} → i < count → decoded_at s at ≡ Value n → skipped (count - (i + 1)) (drop n.next.at s) ≡ whole
+  pub skip_next : {n : Number} → i < count → decoded_at s at ≡ Some n → skipped (count - (i + 1)) (drop n.next.at s) ≡ whole
   skip_next h e = sym (past_value_or s at (skipped (count - (i + 1))) (stored (drop at s)) e) ∙ skip_turn h
 
-  pub skip_stop : i < count → decoded_at s at ≡ Refused → drop at s ≡ whole
+  pub skip_stop : i < count → decoded_at s at ≡ None → drop at s ≡ whole
   skip_stop h e = sym (past_refused_or s at (skipped (count - (i + 1))) (stored (drop at s)) e) ∙ skip_turn h
 
   pub skip_end : count ≤ i → drop at s ≡ whole

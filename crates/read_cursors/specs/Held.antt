@@ -1,7 +1,6 @@
 -- What the bytes still hold from a cursor on. Nothing is demanded of the bytes: the list ends where the next element would be refused.
-use Rattle.std.specs.Prelude.{ℕ, zero, suc, ◌<◌, cond, true, List, [], ◌∷◌, ltb, drop, length, ◌≡◌}
-use Rattle.std.proofs.Math.Option.{Option, some, none}
-use Rattle.segment.specs.Results.{Result, ok, refuse, ◌>>=◌}
+use Rattle.std.specs.Prelude.{Err, None, Ok, Option, Some, ℕ, zero, suc, ◌<◌, cond, true, List, [], ◌∷◌, ltb, drop, length, ◌≡◌}
+use Rattle.segment.specs.Results.{Answer, ◌>>=◌}
 use Rattle.segment.specs.Records.{Document, Read, Posting, number, rises}
 use Rattle.segment.specs.Metadata.{read_document}
 use Rattle.leb128.specs.Leb128.{Leb, stored}
@@ -20,19 +19,19 @@ seek_in key target (x ∷ xs) = let later = seek_in key target xs in cond (ltb (
 
 -- ---- documents
 
-abbrev pub on_document : (ℕ → List ℕ → List Document) → Result (Read Document) → List Document
-on_document next (ok d) = d.got ∷ next d.got.id d.rest
-on_document next (refuse x) = []
+abbrev pub on_document : (ℕ → List ℕ → List Document) → Answer (Read Document) → List Document
+on_document next (Ok d) = d.got ∷ next d.got.id d.rest
+on_document next (Err x) = []
 
 -- the documents that the bytes hold, at most `count`
 unfoldable pub held_documents : (count : ℕ) (previous : Option ℕ) (bytes : List ℕ) → List Document
 held_documents zero previous bytes = []
-held_documents (suc n) previous bytes = on_document (λ id rest. held_documents n (some id) rest) (read_document 0 previous bytes)
+held_documents (suc n) previous bytes = on_document (λ id rest. held_documents n (Some id) rest) (read_document 0 previous bytes)
 
 -- on past one number; stay where it is malformed
 abbrev pub past : (List ℕ → List ℕ) → (bytes : List ℕ) → Option Leb → List ℕ
-past next bytes none = bytes
-past next bytes (some n) = next (drop n.size bytes)
+past next bytes None = bytes
+past next bytes (Some n) = next (drop n.size bytes)
 
 -- the bytes after `count` numbers, or from the first malformed one
 unfoldable pub skipped : (count : ℕ) (bytes : List ℕ) → List ℕ
@@ -43,19 +42,19 @@ skipped (suc n) bytes = past (skipped n) bytes (stored bytes)
 -- element would be refused.
 
 -- the value at the front; which refusal does not matter
-abbrev pub value_at : (previous : Option ℕ) (bytes : List ℕ) → Result (Read ℕ)
+abbrev pub value_at : (previous : Option ℕ) (bytes : List ℕ) → Answer (Read ℕ)
 value_at previous bytes = read_value (doc_id_overflow 0) (invalid_layout non_increasing_posting_id) 0 previous bytes
 
 -- ---- positions
 
-abbrev pub on_value : (Read ℕ → List ℕ) → Result (Read ℕ) → List ℕ
-on_value next (ok v) = v.got ∷ next v
-on_value next (refuse x) = []
+abbrev pub on_value : (Read ℕ → List ℕ) → Answer (Read ℕ) → List ℕ
+on_value next (Ok v) = v.got ∷ next v
+on_value next (Err x) = []
 
 -- the positions that the bytes hold, at most `count`
 unfoldable pub held_positions : (count : ℕ) (previous : Option ℕ) (bytes : List ℕ) → List ℕ
 held_positions zero previous bytes = []
-held_positions (suc n) previous bytes = on_value (λ v. held_positions n (some v.got) v.rest) (value_at previous bytes)
+held_positions (suc n) previous bytes = on_value (λ v. held_positions n (Some v.got) v.rest) (value_at previous bytes)
 
 -- ---- postings
 
@@ -65,26 +64,26 @@ pub record PostingAt : Type 0 where
   pub count : ℕ
   pub bytes : List ℕ
 
-unfoldable pub posting_here : (previous : Option ℕ) (bytes : List ℕ) → Result PostingAt
+unfoldable pub posting_here : (previous : Option ℕ) (bytes : List ℕ) → Answer PostingAt
 posting_here previous bytes = do
   doc ← value_at previous bytes
   count ← number postings 0 doc.rest
-  ok (record { doc = doc.got; count = count.got; bytes = count.rest })
+  Ok (record { doc = doc.got; count = count.got; bytes = count.rest })
 
-abbrev pub on_posting : (PostingAt → List PostingAt) → Result PostingAt → List PostingAt
-on_posting next (ok s) = s ∷ next s
-on_posting next (refuse x) = []
+abbrev pub on_posting : (PostingAt → List PostingAt) → Answer PostingAt → List PostingAt
+on_posting next (Ok s) = s ∷ next s
+on_posting next (Err x) = []
 
 -- the postings that the bytes hold, at most `count`
 unfoldable pub held_postings : (count : ℕ) (previous : Option ℕ) (bytes : List ℕ) → List PostingAt
 held_postings zero previous bytes = []
 held_postings (suc n) previous bytes =
-    on_posting (λ s. held_postings n (some s.doc) (skipped s.count s.bytes)) (posting_here previous bytes)
+    on_posting (λ s. held_postings n (Some s.doc) (skipped s.count s.bytes)) (posting_here previous bytes)
 
 -- ---- a posting by offset, by content
 
 abbrev pub positions_there : PostingAt → List ℕ
-positions_there s = held_positions s.count none s.bytes
+positions_there s = held_positions s.count None s.bytes
 
 abbrev pub posting_of : PostingAt → Posting
 posting_of s = record { doc = s.doc; positions = positions_there s }
@@ -94,15 +93,15 @@ posting_of s = record { doc = s.doc; positions = positions_there s }
 -- numbers in order, each above the one before
 abbrev pub Rises : Option ℕ → List ℕ → Type 0
 Rises previous [] = Unit {0}
-Rises previous (x ∷ xs) = (rises previous x ≡ true) × Rises (some x) xs
+Rises previous (x ∷ xs) = (rises previous x ≡ true) × Rises (Some x) xs
 
 -- a posting has as many positions as it says, at least one, and they rise
 pub record Full (s : PostingAt) : Type 0 where
   pub has_positions : 0 < s.count
   pub long : length (positions_there s) ≡ s.count
-  pub rise : Rises none (positions_there s)
+  pub rise : Rises None (positions_there s)
 
 -- all are full, and their documents rise
 abbrev pub AllFull : Option ℕ → List PostingAt → Type 0
 AllFull previous [] = Unit {0}
-AllFull previous (s ∷ ss) = (rises previous s.doc ≡ true) × Full s × AllFull (some s.doc) ss
+AllFull previous (s ∷ ss) = (rises previous s.doc ≡ true) × Full s × AllFull (Some s.doc) ss

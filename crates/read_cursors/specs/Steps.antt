@@ -1,41 +1,34 @@
 -- What the code's answers on the way mean, as the definitions have it: a step that read something means what it read and the bytes
 -- from the next offset on.
-use Rattle.std.specs.Prelude.{ℕ, zero, suc, ◌-◌, ◌≤◌, ◌<◌, List, [], ◌∷◌, drop, ◌≡◌}
-use Rattle.std.proofs.Math.Option.{Option, some}
-use Rattle.read_cursors.specs.declared.documents.DocumentStep.{DocumentStep}
-use Rattle.read_cursors.specs.declared.documents.DocumentStep.TheVariants as step
-use Rattle.read_cursors.specs.declared.documents.ShortDocument.{ShortDocument}
-use Rattle.read_cursors.specs.declared.documents.ShortDocument.TheVariants as short_document
-use Rattle.read_cursors.specs.declared.values.ValueStep.{ValueStep}
-use Rattle.read_cursors.specs.declared.values.ValueStep.TheVariants as value
-use Rattle.segment.specs.Results.{Result, ok, refuse}
+use Rattle.std.specs.Prelude.{Err, None, Ok, Option, Some, ℕ, zero, suc, ◌-◌, ◌≤◌, ◌<◌, List, [], ◌∷◌, drop, ◌≡◌}
+use Rattle.read_cursors.specs.declared.documents.DocumentRead.{DocumentRead}
+use Rattle.leb128.specs.declared.varint.Number.{Number}
+use Rattle.segment.specs.Results.{Answer}
 use Rattle.segment.specs.Records.{Document, Read}
 use Rattle.segment.specs.Metadata.{document}
 use Rattle.read_cursors.specs.declared.documents.Documents.{Documents}
 use Rattle.read_cursors.specs.Held.{rest_of, seek_in, held_documents, skipped, PostingAt, held_postings, held_positions}
 use Rattle.read_cursors.specs.declared.postings.Postings.{Postings}
-use Rattle.read_cursors.specs.declared.postings.ShortPosting.{ShortPosting}
-use Rattle.read_cursors.specs.declared.postings.ShortPosting.TheVariants as short_posting
 use Rattle.read_cursors.specs.declared.positions.Positions.{Positions}
 
-abbrev pub document_means : List ℕ → DocumentStep → Result (Read Document)
-document_means meta (step.Next d) = ok (record { got = document d.id.0 d.len; rest = drop d.next.at meta })
-document_means meta (step.Refused x) = refuse x
+abbrev pub document_means : List ℕ → Answer DocumentRead → Answer (Read Document)
+document_means meta (Ok d) = Ok (record { got = document d.id.0 d.len; rest = drop d.next.at meta })
+document_means meta (Err x) = Err x
 
 -- a document that was read at once is the one that is there; of any other nothing is said
-abbrev pub ShortRead : List ℕ → Result (Read Document) → ShortDocument → Type 0
-ShortRead meta there (short_document.Sure d) = document_means meta (step.Next d) ≡ there
-ShortRead meta there short_document.Unsure = Unit {0}
+abbrev pub ShortRead : List ℕ → Answer (Read Document) → Option DocumentRead → Type 0
+ShortRead meta there (Some d) = document_means meta (Ok d) ≡ there
+ShortRead meta there None = Unit {0}
 
 -- ---- posting lists
 
-abbrev pub value_means : List ℕ → ValueStep → Result (Read ℕ)
-value_means list (value.Next n) = ok (record { got = n.value; rest = drop n.next.at list })
-value_means list (value.Refused x) = refuse x
+abbrev pub value_means : List ℕ → Answer Number → Answer (Read ℕ)
+value_means list (Ok n) = Ok (record { got = n.value; rest = drop n.next.at list })
+value_means list (Err x) = Err x
 
 unfoldable pub documents_at : (remaining at id len : ℕ) (bytes : List ℕ) → List Document
 documents_at zero at id len bytes = []
-documents_at (suc n) at id len bytes = document id len ∷ held_documents n (some id) (drop at bytes)
+documents_at (suc n) at id len bytes = document id len ∷ held_documents n (Some id) (drop at bytes)
 
 -- the documents from a cursor on
 abbrev pub documents_from : List ℕ → Documents → List Document
@@ -60,7 +53,7 @@ pub record SoughtDocument (bytes : List ℕ) (id : ℕ) (c r : Documents) : Type
 unfoldable pub postings_at : (remaining at count doc : ℕ) (bytes : List ℕ) → List PostingAt
 postings_at zero at count doc bytes = []
 postings_at (suc n) at count doc bytes =
-    record { doc = doc; count = count; bytes = drop at bytes } ∷ held_postings n (some doc) (skipped count (drop at bytes))
+    record { doc = doc; count = count; bytes = drop at bytes } ∷ held_postings n (Some doc) (skipped count (drop at bytes))
 
 abbrev pub postings_from : List ℕ → Postings → List PostingAt
 postings_from bytes c = postings_at c.remaining c.at c.count c.doc.0 bytes
@@ -74,9 +67,9 @@ pub record AdvancedPostings (bytes : List ℕ) (c r : Postings) : Type 0 where
   pub less : r.remaining ≤ c.remaining - 1
 
 -- a cursor that was advanced at once is the advanced one; of any other nothing is said
-abbrev pub ShortAdvanced : List ℕ → Postings → ShortPosting → Type 0
-ShortAdvanced bytes c (short_posting.Sure r) = AdvancedPostings bytes c r
-ShortAdvanced bytes c short_posting.Unsure = Unit {0}
+abbrev pub ShortAdvanced : List ℕ → Postings → Option Postings → Type 0
+ShortAdvanced bytes c (Some r) = AdvancedPostings bytes c r
+ShortAdvanced bytes c None = Unit {0}
 
 pub record SoughtPosting (bytes : List ℕ) (target : ℕ) (c r : Postings) : Type 0 where
   pub holds : postings_from bytes r ≡ seek_in (λ (s : PostingAt). s.doc) target (postings_from bytes c)
@@ -86,7 +79,7 @@ pub record SoughtPosting (bytes : List ℕ) (target : ℕ) (c r : Postings) : Ty
 
 unfoldable pub positions_at : (remaining at pos : ℕ) (bytes : List ℕ) → List ℕ
 positions_at zero at pos bytes = []
-positions_at (suc n) at pos bytes = pos ∷ held_positions n (some pos) (drop at bytes)
+positions_at (suc n) at pos bytes = pos ∷ held_positions n (Some pos) (drop at bytes)
 
 abbrev pub positions_from : List ℕ → Positions → List ℕ
 positions_from bytes c = positions_at c.remaining c.at c.pos.0 bytes

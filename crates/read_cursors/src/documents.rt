@@ -1,20 +1,16 @@
 // Document metadata: per document an id gap and a length.
-ghost use Rattle.std.specs.Prelude.{◌≡◌, ◌-◌, drop, eqb};
-ghost use Rattle.std.proofs.Math.Option.{none};
+ghost use Rattle.std.specs.Prelude.{None, ◌≡◌, ◌-◌, drop, eqb};
 ghost use Rattle.segment.specs.Metadata.{read_document};
-ghost use Rattle.segment.specs.Steps.{earlier};
+ghost use Rattle.segment.specs.Steps.{id_of};
 ghost use Rattle.read_cursors.specs.Steps.{document_means, ShortRead, documents_from};
 ghost use Rattle.read_cursors.specs.Steps.{EnteredDocuments, AdvancedDocuments, SoughtDocument};
 ghost use Rattle.read_cursors.specs.Held.{held_documents};
 
 use crate::singles::all_single;
 use common::widths::byte;
-use leb128::varint::{Decoded, Reader};
+use leb128::varint::{Number, Reader};
 use segment::ids::DocId;
-use segment::refusal::{
-    DOCUMENT_METADATA, NON_INCREASING_DOCUMENT_ID, Refusal, doc_id_overflow, invalid_layout,
-    invalid_varint,
-};
+use segment::refusal::{Reason, Refusal, Section};
 
 // A document that was read, and the advanced reader.
 #[derive(Clone, Copy)]
@@ -24,82 +20,81 @@ pub struct DocumentRead {
     pub next: Reader,
 }
 
-#[derive(Clone, Copy)]
-pub enum DocumentStep {
-    Next(DocumentRead),
-    Refused(Refusal),
-}
-
-// What is known at once of the document at a reader.
-#[derive(Clone, Copy)]
-pub enum ShortDocument {
-    Sure(DocumentRead),
-    Unsure,
-}
-
 // The document at the reader, number by number: both numbers, overflow, order. The first one's gap is its id.
-fn read_document_each(meta: &[u8], from: Reader, index: u32, previous: DocId) -> DocumentStep
-    ensures { document_means meta.now result ≡ read_document index (earlier (eqb index 0) previous.0) (drop from.at meta.now) }
+fn read_document_each(
+    meta: &[u8],
+    from: Reader,
+    index: u32,
+    previous: Option<DocId>,
+) -> Result<DocumentRead, Refusal>
+    ensures { document_means meta.now result ≡ read_document index (id_of previous) (drop from.at meta.now) }
 {
-    let Decoded::Value(gap) = from.decode_u32(meta) else {
-        return DocumentStep::Refused(invalid_varint(DOCUMENT_METADATA, index as u64));
+    let malformed = Refusal::InvalidVarint(Section::DocumentMetadata, index as u64);
+    let Some(gap) = from.decode_u32(meta) else {
+        return Err(malformed);
     };
-    let after = gap.next;
-    let Decoded::Value(len) = after.decode_u32(meta) else {
-        return DocumentStep::Refused(invalid_varint(DOCUMENT_METADATA, index as u64));
+    let Some(len) = gap.next.decode_u32(meta) else {
+        return Err(malformed);
     };
-    let next = len.next;
-    if index == 0 {
-        return DocumentStep::Next(DocumentRead {
+    let Some(before) = previous else {
+        return Ok(DocumentRead {
             id: DocId(gap.value),
             len: len.value,
-            next: next,
+            next: len.next,
         });
+    };
+    if u32::MAX - before.0 < gap.value {
+        return Err(Refusal::DocIdOverflow(index as u64));
     }
-    if 0xFFFF_FFFF - previous.0 < gap.value {
-        return DocumentStep::Refused(doc_id_overflow(index as u64));
+    let id = before.0 + gap.value;
+    if id <= before.0 {
+        return Err(Refusal::InvalidLayout(Reason::NonIncreasingDocumentId));
     }
-    let id = previous.0 + gap.value;
-    if id <= previous.0 {
-        return DocumentStep::Refused(invalid_layout(NON_INCREASING_DOCUMENT_ID));
-    }
-    DocumentStep::Next(DocumentRead {
+    Ok(DocumentRead {
         id: DocId(id),
         len: len.value,
-        next: next,
+        next: len.next,
     })
 }
 
 // The document at the reader, where its gap and its length take a byte each and it is sure to be accepted.
-fn short_document(meta: &[u8], from: Reader, index: u32, previous: DocId) -> ShortDocument
-    ensures { ShortRead meta.now (read_document index (earlier (eqb index 0) previous.0) (drop from.at meta.now)) result }
+fn short_document(
+    meta: &[u8],
+    from: Reader,
+    index: u32,
+    previous: Option<DocId>,
+) -> Option<DocumentRead>
+    ensures { ShortRead meta.now (read_document index (id_of previous) (drop from.at meta.now)) result }
 {
+    let before = previous?;
     let at = from.at;
-    if all_single(meta, at, 2) {
-        let gap = byte(meta[at]);
-        let len = byte(meta[at + 1]);
-        if 0 < index {
-            if 0 < gap {
-                if gap <= 0xFFFF_FFFF - previous.0 {
-                    return ShortDocument::Sure(DocumentRead {
-                        id: DocId(previous.0 + gap),
-                        len: len,
-                        next: Reader { at: at + 2 },
-                    });
-                }
-            }
-        }
+    if !all_single(meta, at, 2) {
+        return None;
     }
-    ShortDocument::Unsure
+    let gap = byte(meta[at]);
+    let len = byte(meta[at + 1]);
+    if gap == 0 || u32::MAX - before.0 < gap {
+        return None;
+    }
+    Some(DocumentRead {
+        id: DocId(before.0 + gap),
+        len,
+        next: Reader { at: at + 2 },
+    })
 }
 
 // The document at the reader: at once where it is short, else number by number.
-pub fn read_document(meta: &[u8], from: Reader, index: u32, previous: DocId) -> DocumentStep
-    ensures { document_means meta.now result ≡ read_document index (earlier (eqb index 0) previous.0) (drop from.at meta.now) }
+pub fn read_document(
+    meta: &[u8],
+    from: Reader,
+    index: u32,
+    previous: Option<DocId>,
+) -> Result<DocumentRead, Refusal>
+    ensures { document_means meta.now result ≡ read_document index (id_of previous) (drop from.at meta.now) }
 {
     match short_document(meta, from, index, previous) {
-        ShortDocument::Sure(d) => DocumentStep::Next(d),
-        ShortDocument::Unsure => read_document_each(meta, from, index, previous),
+        Some(d) => Ok(d),
+        None => read_document_each(meta, from, index, previous),
     }
 }
 
@@ -115,42 +110,40 @@ pub struct Documents {
 
 impl Documents {
     // The cursor at the first of `remaining` documents from the reader on; none remains if that one is refused.
-    fn enter(meta: &[u8], from: Reader, remaining: u32, index: u32, previous: DocId) -> Documents
-        ensures { EnteredDocuments meta.now remaining (earlier (eqb index 0) previous.0) from.at result }
+    fn enter(
+        meta: &[u8],
+        from: Reader,
+        remaining: u32,
+        index: u32,
+        previous: Option<DocId>,
+    ) -> Documents
+        ensures { EnteredDocuments meta.now remaining (id_of previous) from.at result }
     {
+        let none = Documents {
+            at: 0,
+            remaining: 0,
+            id: DocId(0),
+            len: 0,
+        };
         if remaining == 0 {
-            return Documents {
-                at: 0,
-                remaining: 0,
-                id: previous,
-                len: 0,
-            };
+            return none;
         }
-        match read_document_each(meta, from, index, previous) {
-            DocumentStep::Next(d) => {
-                let next = d.next;
-                let id = d.id;
-                Documents {
-                    at: next.at,
-                    remaining: remaining,
-                    id: id,
-                    len: d.len,
-                }
-            }
-            DocumentStep::Refused(_) => Documents {
-                at: 0,
-                remaining: 0,
-                id: previous,
-                len: 0,
-            },
+        let Ok(d) = read_document_each(meta, from, index, previous) else {
+            return none;
+        };
+        Documents {
+            at: d.next.at,
+            remaining,
+            id: d.id,
+            len: d.len,
         }
     }
 
     // The cursor at the first document.
     pub fn start(meta: &[u8], count: u32) -> Documents
-        ensures { documents_from meta.now result ≡ held_documents count none meta.now }
+        ensures { documents_from meta.now result ≡ held_documents count None meta.now }
     {
-        Documents::enter(meta, Reader { at: 0 }, count, 0, DocId(0))
+        Documents::enter(meta, Reader { at: 0 }, count, 0, None)
     }
 
     // The cursor advanced by one document: at once where the next one is short.
@@ -161,22 +154,18 @@ impl Documents {
             return self;
         }
         let remaining = self.remaining - 1;
+        let from = Reader { at: self.at };
         if 0 < remaining {
-            match short_document(meta, Reader { at: self.at }, 1, self.id) {
-                ShortDocument::Sure(d) => {
-                    let next = d.next;
-                    let id = d.id;
-                    return Documents {
-                        at: next.at,
-                        remaining: remaining,
-                        id: id,
-                        len: d.len,
-                    };
-                }
-                ShortDocument::Unsure => {}
+            if let Some(d) = short_document(meta, from, 1, Some(self.id)) {
+                return Documents {
+                    at: d.next.at,
+                    remaining,
+                    id: d.id,
+                    len: d.len,
+                };
             }
         }
-        Documents::enter(meta, Reader { at: self.at }, remaining, 1, self.id)
+        Documents::enter(meta, from, remaining, 1, Some(self.id))
     }
 
     // The cursor at the first document from here whose id is at least `id`.
@@ -185,8 +174,7 @@ impl Documents {
     {
         let mut c = self;
         while 0 < c.remaining {
-            let here = c.id;
-            if id.0 <= here.0 {
+            if id.0 <= c.id.0 {
                 return c;
             }
             c = c.advance(meta);

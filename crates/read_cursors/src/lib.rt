@@ -6,6 +6,7 @@
 //   documents   one document read, and a cursor over the documents of the metadata
 //   postings    a cursor over the postings of a list
 //   positions   a cursor over the positions of a posting
+// A cursor is no iterator: it holds no borrow, is kept in tables by value and sought ahead, so loops over it advance it with the bytes.
 // specs/Held.antt defines what bytes hold element by element, specs/Steps.antt what a cursor has still to walk, specs/Singles.antt what is
 // told by one word.
 #![tactic(auto)]

@@ -1,15 +1,13 @@
 // A cursor over the positions of a posting, as postings.rt has one over the postings of a list.
-ghost use Rattle.std.specs.Prelude.{◌≡◌, drop};
-ghost use Rattle.std.proofs.Math.Option.{none};
-ghost use Rattle.segment.specs.Steps.{earlier};
+ghost use Rattle.std.specs.Prelude.{None, ◌≡◌, drop};
 ghost use Rattle.read_cursors.specs.Held.{held_positions};
 ghost use Rattle.read_cursors.specs.Steps.{positions_from, EnteredPositions, AdvancedPositions, SoughtPosition};
 
 use crate::postings::Postings;
-use crate::values::{ValueStep, read_value};
-use leb128::varint::Reader;
+use crate::values::read_value;
+use leb128::varint::{Number, Reader};
 use segment::ids::TokenPos;
-use segment::refusal::{NON_INCREASING_POSITION, POSITION_OVERFLOW};
+use segment::refusal::{Reason, Refusal};
 
 // A cursor over a posting's positions: `remaining` are to come, the first of them is `pos`, and the gap after it starts at offset `at`.
 #[derive(Clone, Copy)]
@@ -21,56 +19,39 @@ pub struct Positions {
 
 impl Positions {
     // The cursor at the first of `remaining` positions from the reader on; none remains if that one is refused.
-    fn enter(
-        bytes: &[u8],
-        from: Reader,
-        remaining: u32,
-        first: bool,
-        previous: TokenPos,
-    ) -> Positions
-        ensures { EnteredPositions bytes.now remaining (earlier first previous.0) from.at result }
+    fn enter(bytes: &[u8], from: Reader, remaining: u32, previous: Option<u32>) -> Positions
+        ensures { EnteredPositions bytes.now remaining previous from.at result }
     {
         let none = Positions {
             at: 0,
             remaining: 0,
-            pos: previous,
+            pos: TokenPos(0),
         };
         if remaining == 0 {
             return none;
         }
-        let gap = match read_value(
+        let Ok(gap) = read_value(
             bytes,
             from,
-            first,
-            previous.0,
-            POSITION_OVERFLOW,
-            NON_INCREASING_POSITION,
+            previous,
+            Refusal::PositionOverflow(0),
+            Reason::NonIncreasingPosition,
             0,
-        ) {
-            ValueStep::Next(value) => value,
-            ValueStep::Refused(_) => {
-                return none;
-            }
+        ) else {
+            return none;
         };
-        let next = gap.next;
         Positions {
-            at: next.at,
-            remaining: remaining,
+            at: gap.next.at,
+            remaining,
             pos: TokenPos(gap.value),
         }
     }
 
     // The cursor at the first position of the posting that a cursor is at.
     pub fn start(bytes: &[u8], posting: Postings) -> Positions
-        ensures { positions_from bytes.now result ≡ held_positions posting.count none (drop posting.at bytes.now) }
+        ensures { positions_from bytes.now result ≡ held_positions posting.count None (drop posting.at bytes.now) }
     {
-        Positions::enter(
-            bytes,
-            Reader { at: posting.at },
-            posting.count,
-            true,
-            TokenPos(0),
-        )
+        Positions::enter(bytes, Reader { at: posting.at }, posting.count, None)
     }
 
     // The cursor advanced by one position.
@@ -84,8 +65,7 @@ impl Positions {
             bytes,
             Reader { at: self.at },
             self.remaining - 1,
-            false,
-            self.pos,
+            Some(self.pos.0),
         )
     }
 
@@ -95,8 +75,7 @@ impl Positions {
     {
         let mut c = self;
         while 0 < c.remaining {
-            let here = c.pos;
-            if target <= here.0 as u64 {
+            if target <= c.pos.0 as u64 {
                 return c;
             }
             c = c.advance(bytes);

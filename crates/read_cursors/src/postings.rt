@@ -1,16 +1,15 @@
 // A cursor over the postings of a list. It demands nothing of the bytes: where the next posting would be refused, none remains.
-ghost use Rattle.std.specs.Prelude.{◌≡◌, drop};
-ghost use Rattle.std.proofs.Math.Option.{none};
-ghost use Rattle.segment.specs.Steps.{earlier};
+ghost use Rattle.std.specs.Prelude.{None, ◌≡◌, drop};
+ghost use Rattle.segment.specs.Steps.{id_of};
 ghost use Rattle.read_cursors.specs.Held.{held_postings};
 ghost use Rattle.read_cursors.specs.Steps.{postings_from, EnteredPostings, AdvancedPostings, ShortAdvanced, SoughtPosting};
 
 use crate::singles::all_single;
-use crate::values::{ValueStep, read_value, skip};
+use crate::values::{read_value, skip};
 use common::widths::{byte, long};
-use leb128::varint::{Decoded, Reader};
+use leb128::varint::{Number, Reader};
 use segment::ids::DocId;
-use segment::refusal::{DOC_ID_OVERFLOW, NON_INCREASING_POSTING_ID};
+use segment::refusal::{Reason, Refusal};
 
 // A cursor over a list: `remaining` postings are to come, the first of them is of document `doc`, and its `count` positions start at
 // offset `at`.
@@ -22,59 +21,46 @@ pub struct Postings {
     pub doc: DocId,
 }
 
-// What is known at once of the cursor advanced by one posting.
-#[derive(Clone, Copy)]
-pub enum ShortPosting {
-    Sure(Postings),
-    Unsure,
-}
-
 impl Postings {
     // The cursor at the first of `remaining` postings from the reader on; none remains if that one is refused.
-    fn enter(bytes: &[u8], from: Reader, remaining: u32, first: bool, previous: DocId) -> Postings
-        ensures { EnteredPostings bytes.now remaining (earlier first previous.0) from.at result }
+    fn enter(bytes: &[u8], from: Reader, remaining: u32, previous: Option<DocId>) -> Postings
+        ensures { EnteredPostings bytes.now remaining (id_of previous) from.at result }
     {
         let none = Postings {
             at: 0,
             count: 0,
             remaining: 0,
-            doc: previous,
+            doc: DocId(0),
         };
         if remaining == 0 {
             return none;
         }
-        let gap = match read_value(
+        let Ok(gap) = read_value(
             bytes,
             from,
-            first,
-            previous.0,
-            DOC_ID_OVERFLOW,
-            NON_INCREASING_POSTING_ID,
+            previous.map(|id| id.0),
+            Refusal::DocIdOverflow(0),
+            Reason::NonIncreasingPostingId,
             0,
-        ) {
-            ValueStep::Next(value) => value,
-            ValueStep::Refused(_) => {
-                return none;
-            }
-        };
-        let after = gap.next;
-        let Decoded::Value(count) = after.decode_u32(bytes) else {
+        ) else {
             return none;
         };
-        let next = count.next;
+        let Some(count) = gap.next.decode_u32(bytes) else {
+            return none;
+        };
         Postings {
-            at: next.at,
+            at: count.next.at,
             count: count.value,
-            remaining: remaining,
+            remaining,
             doc: DocId(gap.value),
         }
     }
 
     // The cursor at the first of `df` postings from offset `at` on.
     pub fn start(bytes: &[u8], at: usize, df: u32) -> Postings
-        ensures { postings_from bytes.now result ≡ held_postings df none (drop at bytes.now) }
+        ensures { postings_from bytes.now result ≡ held_postings df None (drop at bytes.now) }
     {
-        Postings::enter(bytes, Reader { at: at }, df, true, DocId(0))
+        Postings::enter(bytes, Reader { at }, df, None)
     }
 
     // The cursor advanced by one posting, number by number; its positions are skipped.
@@ -85,34 +71,30 @@ impl Postings {
             return self;
         }
         let past = skip(bytes, Reader { at: self.at }, self.count);
-        Postings::enter(bytes, past, self.remaining - 1, false, self.doc)
+        Postings::enter(bytes, past, self.remaining - 1, Some(self.doc))
     }
 
     // The cursor advanced by one posting, where its positions and the next posting's gap and count take a byte each, and that posting is
     // sure to be accepted.
-    fn advance_short(self, bytes: &[u8]) -> ShortPosting
+    fn advance_short(self, bytes: &[u8]) -> Option<Postings>
         ensures { ShortAdvanced bytes.now self result }
     {
         let n = long(self.count);
-        if all_single(bytes, self.at, n + 2) {
-            let past = self.at + n;
-            let gap = byte(bytes[past]);
-            let count = byte(bytes[past + 1]);
-            let doc = self.doc;
-            if 1 < self.remaining {
-                if 0 < gap {
-                    if gap <= 0xFFFF_FFFF - doc.0 {
-                        return ShortPosting::Sure(Postings {
-                            at: past + 2,
-                            count: count,
-                            remaining: self.remaining - 1,
-                            doc: DocId(doc.0 + gap),
-                        });
-                    }
-                }
-            }
+        if !all_single(bytes, self.at, n + 2) {
+            return None;
         }
-        ShortPosting::Unsure
+        let past = self.at + n;
+        let gap = byte(bytes[past]);
+        let count = byte(bytes[past + 1]);
+        if self.remaining <= 1 || gap == 0 || u32::MAX - self.doc.0 < gap {
+            return None;
+        }
+        Some(Postings {
+            at: past + 2,
+            count,
+            remaining: self.remaining - 1,
+            doc: DocId(self.doc.0 + gap),
+        })
     }
 
     // The cursor advanced by one posting: at once where all is short, else number by number.
@@ -120,8 +102,8 @@ impl Postings {
         ensures { AdvancedPostings bytes.now self result }
     {
         match self.advance_short(bytes) {
-            ShortPosting::Sure(next) => next,
-            ShortPosting::Unsure => self.advance_each(bytes),
+            Some(next) => next,
+            None => self.advance_each(bytes),
         }
     }
 
@@ -131,19 +113,14 @@ impl Postings {
     {
         let mut c = self;
         while 0 < c.remaining {
-            let here = c.doc;
-            if target <= here.0 as u64 {
+            if target <= c.doc.0 as u64 {
                 return c;
             }
             // `advance`, written out: `advance_each` then stays a call of its own, and the cursor stays in registers
-            match c.advance_short(bytes) {
-                ShortPosting::Sure(next) => {
-                    c = next;
-                }
-                ShortPosting::Unsure => {
-                    c = c.advance_each(bytes);
-                }
-            }
+            c = match c.advance_short(bytes) {
+                Some(next) => next,
+                None => c.advance_each(bytes),
+            };
         }
         c
     }

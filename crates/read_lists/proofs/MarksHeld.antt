@@ -1,9 +1,9 @@
 -- Cursors spread over the metadata: a cursor that is advanced stays a mark, and a posting may be read from a mark that is not past it.
 -- Assumes nothing.
+use Rattle.std.specs.Prelude.{Some}
 use mathlib.Core.Path.{◌≡◌, refl, ap, ◌∙◌}
 use mathlib.Core.List.{List}
 use mathlib.Core.Logic.{⊎_elim}
-use mathlib.Core.Option.{some}
 use Prim.Native.Nat.{ℕ, zero, suc, ◌≤◌, ◌<◌}
 use native.Mathlib.Omega.{arith}
 use lib.ListN.{length, drop, get_or, set, replicate, get_or-replicate}
@@ -31,7 +31,7 @@ module _ (s : List ℕ) (at id len : ℕ) where
   later : (remaining : ℕ) → Rising (suc id) (rest_of (documents_at remaining at id len s))
   unfolding documents_at
   later zero = tt
-  later (suc n) = held_rise n (some id) (drop at s)
+  later (suc n) = held_rise n (Some id) (drop at s)
 
   least : (low remaining : ℕ) → 0 < remaining → Rising low (documents_at remaining at id len s) → low ≤ id
   unfolding documents_at

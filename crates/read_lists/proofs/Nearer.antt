@@ -1,9 +1,10 @@
 -- A posting read from a mark that is not past it: the answer is what the cursor at hand gives.
 -- Assumes nothing.
+use Rattle.std.specs.Prelude.{Err, None, Ok, Option, Some}
+use Rattle.segment.specs.Results.{Answer}
 use mathlib.Core.Path.{◌≡◌, refl, sym, ap, ◌∙◌}
 use mathlib.Core.Bool.{Bool, true, false, cond}
 use mathlib.Core.List.{List}
-use mathlib.Core.Option.{Option, none, some}
 use Prim.Native.Nat.{ℕ, ◌≤◌, ◌<◌}
 use native.Mathlib.Omega.{arith}
 use lib.Dec.{ltb, leb}
@@ -12,13 +13,8 @@ use borrow.Author.Tests.{ltb-true, ltb-false, lt-ltb, le-ltb, le-leb, lt-leb}
 use Rattle.leb128.specs.declared.varint.Number.{Number}
 use Rattle.segment.specs.declared.refusal.Refusal.{Refusal}
 use Rattle.read_cursors.specs.declared.documents.Documents.{Documents}
-use Rattle.read_cursors.specs.declared.values.ValueStep.{ValueStep}
-use Rattle.read_cursors.specs.declared.values.ValueStep.TheVariants as value
 use Rattle.read_lists.specs.declared.lists.Head.{Head as ReadHead}
-use Rattle.read_lists.specs.declared.lists.HeadStep.{HeadStep}
-use Rattle.read_lists.specs.declared.lists.HeadStep.TheVariants as head
 use Rattle.segment.specs.Refusals.{postings, doc_id_overflow, invalid_layout, non_increasing_posting_id}
-use Rattle.segment.specs.Results.{ok}
 use Rattle.segment.specs.Records.{Document, Read, number, rises}
 use Rattle.segment.specs.Metadata.{length_of}
 use Rattle.segment.specs.Postings.{Head, read_value, read_head}
@@ -33,24 +29,24 @@ use Rattle.read_lists.proofs.Tallies.{bind_agree}
 
 -- ---- the value looked at
 
-module _ {list : List ℕ} {previous : Option ℕ} {at : ℕ} {v : ValueStep}
+module _ {list : List ℕ} {previous : Option ℕ} {at : ℕ} {v : (Answer Number)}
     (answer : value_means list v ≡ value_at previous (drop at list)) where
-  pub peeked_value : {n : Number} → v ≡ value.Next n → Peeked list previous at n.value
+  pub peeked_value : {n : Number} → v ≡ Ok n → Peeked list previous at n.value
   peeked_value e = record { same = λ w is. ap (λ (x : Read ℕ). x.got) (ok_same (ap (value_means list) (sym e) ∙ answer ∙ is)) }
 
-  pub peeked_none : {x : Refusal} → v ≡ value.Refused x → Peeked list previous at 0
+  pub peeked_none : {x : Refusal} → v ≡ Err x → Peeked list previous at 0
   peeked_none e = record { same = λ w is. refuse_ok (ap (value_means list) (sym e) ∙ answer ∙ is) }
 
 -- ---- two cursors that say the same from the value on
 
 rises_least : (previous : Option ℕ) (x : ℕ) → rises previous x ≡ true → above previous ≤ x
-rises_least none x e = omega arith
-rises_least (some p) x e = ltb-true p x e
+rises_least None x e = omega arith
+rises_least (Some p) x e = ltb-true p x e
 
 -- the value of a posting that was read
 head_value : (place : ℕ) (ds : List Document) (previous : Option ℕ) (bytes : List ℕ) {h : Read Head}
-    → read_head place ds previous bytes ≡ ok h
-    → (v : Read ℕ) × (value_at previous bytes ≡ ok v) × (v.got ≡ h.got.doc)
+    → read_head place ds previous bytes ≡ Ok h
+    → (v : Read ℕ) × (value_at previous bytes ≡ Ok v) × (v.got ≡ h.got.doc)
 unfolding posting_here
 head_value place ds previous bytes e =
     let (v, is, f) = bind_gives (value_at previous bytes) _ (head_read place ds previous bytes e).held in
@@ -58,7 +54,7 @@ head_value place ds previous bytes e =
     (v, is, ap (λ (x : PostingAt). x.doc) (ok_same g))
 
 module _ (list meta : List ℕ) (at place : ℕ) (previous : Option ℕ) (near known : Documents)
-    (same : (v : Read ℕ) → value_at previous (drop at list) ≡ ok v → (id : ℕ) → v.got ≤ id
+    (same : (v : Read ℕ) → value_at previous (drop at list) ≡ Ok v → (id : ℕ) → v.got ≤ id
     → length_of (documents_from meta near) id ≡ length_of (documents_from meta known) id) where
   head_agree : read_head place (documents_from meta near) previous (drop at list)
       ≡ read_head place (documents_from meta known) previous (drop at list)
@@ -67,14 +63,14 @@ module _ (list meta : List ℕ) (at place : ℕ) (previous : Option ℕ) (near k
       bind_agree (read_value (doc_id_overflow place) (invalid_layout non_increasing_posting_id) place previous (drop at list)) _ _
       (λ v is. rw (same v (value_any (value_read _ _ place previous (drop at list) is) _ _ 0) v.got (omega arith)))
 
-  kept_agree : (r : HeadStep) → head_means list r ≡ read_head place (documents_from meta near) previous (drop at list) → Kept meta near r
+  kept_agree : (r : Answer ReadHead) → head_means list r ≡ read_head place (documents_from meta near) previous (drop at list) → Kept meta near r
       → Kept meta known r
-  kept_agree (head.Next h) e k =
+  kept_agree (Ok h) e k =
       let (v, is, doc) = head_value place (documents_from meta near) previous (drop at list) (sym e) in
       λ id g. k id g ∙ same v is id (omega arith)
-  kept_agree (head.Refused x) e k = tt
+  kept_agree (Err x) e k = tt
 
-  walked_agree : (r : HeadStep) → WalkedHead list at place previous meta near r → WalkedHead list at place previous meta known r
+  walked_agree : (r : Answer ReadHead) → WalkedHead list at place previous meta near r → WalkedHead list at place previous meta known r
   walked_agree r w = record { reads = w.reads ∙ head_agree; kept = kept_agree r w.reads w.kept }
 
 -- ---- the mark
@@ -109,7 +105,7 @@ module _ {meta : List ℕ} {ds : List Document} {previous : Option ℕ} {known :
       by false false e = m id (omega (arith, ltb-false doc mark.id.0 e)) ∙ sym (agrees.says id (omega arith))
 
   module _ {list : List ℕ} {at place : ℕ} where
-    pub walks_near : (mark : Documents) {near : Documents} {doc : ℕ} {r : HeadStep} → Mark meta ds mark → Peeked list previous at doc
+    pub walks_near : (mark : Documents) {near : Documents} {doc : ℕ} {r : Answer ReadHead} → Mark meta ds mark → Peeked list previous at doc
         → near ≡ nearer_of known mark doc → WalkedHead list at place previous meta near r → WalkedHead list at place previous meta known r
     walks_near mark {near} {doc} {r} m p e w =
         walked_agree list meta at place previous near known
@@ -118,10 +114,10 @@ module _ {meta : List ℕ} {ds : List Document} {previous : Option ℕ} {known :
         (omega (arith, p.same v is))))
         r w
 
-    pub agrees_on : {r : HeadStep} {d : ReadHead} → WalkedHead list at place previous meta known r → r ≡ head.Next d
-        → Agrees meta ds (some d.doc.0) d.documents
+    pub agrees_on : {r : Answer ReadHead} {d : ReadHead} → WalkedHead list at place previous meta known r → r ≡ Ok d
+        → Agrees meta ds (Some d.doc.0) d.documents
     agrees_on {r} {d} w e =
         let read = head_read place (documents_from meta known) previous (drop at list) (sym w.reads ∙ ap (head_means list) e) in
-        let kept : Kept meta known (head.Next d) = rw e at w.kept in
+        let kept : Kept meta known (Ok d) = rw e at w.kept in
         let low = rises_least previous d.doc.0 read.rises in
         record { says = λ id h. kept id (omega arith) ∙ agrees.says id (omega arith) }

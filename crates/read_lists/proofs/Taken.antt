@@ -1,8 +1,9 @@
 -- What documents and terms take of a segment's bytes: two bytes or more each, and 32 each.
 -- Assumes nothing.
+use Rattle.segment.specs.declared.refusal.Section.{Section}
+use Rattle.std.specs.Prelude.{None, Ok, Option, Some}
 use mathlib.Core.Path.{◌≡◌, ap}
 use mathlib.Core.List.{List}
-use mathlib.Core.Option.{Option, none, some}
 use Prim.Native.Nat.{ℕ, zero, suc, ◌+◌, ◌*◌, ◌^◌, ◌≤◌}
 use native.Mathlib.Omega.{arith}
 use lib.Dec.{ltb, leb, eqb}
@@ -10,7 +11,6 @@ use lib.ListN.{length, take, drop, length-take, length-drop}
 use borrow.Author.Tests.{leb-true, eqb-true}
 use Rattle.segment.specs.Refusals.{term_directory, term_bytes, document_metadata, postings, doc_id_overflow, invalid_layout}
 use Rattle.segment.specs.Refusals.{non_increasing_document_id}
-use Rattle.segment.specs.Results.{ok}
 use Rattle.segment.specs.Records.{Document, Entry, Segment, Read, number, at_gap, rises, field}
 use Rattle.segment.specs.Names.{same}
 use Rattle.segment.specs.Metadata.{document, read_document, read_documents, metadata}
@@ -23,7 +23,7 @@ use Rattle.read_cursors.proofs.DocumentsHeld.{Rising, metadata_held, held_rise}
 
 -- ---- documents
 
-document_taken : (place : ℕ) (previous : Option ℕ) (bytes : List ℕ) {d : Read Document} → read_document place previous bytes ≡ ok d
+document_taken : (place : ℕ) (previous : Option ℕ) (bytes : List ℕ) {d : Read Document} → read_document place previous bytes ≡ Ok d
     → 2 + length d.rest ≤ length bytes
 unfolding read_document
 document_taken place previous bytes {d} e =
@@ -40,7 +40,7 @@ document_taken place previous bytes {d} e =
     )
 
 documents_taken : (n place : ℕ) (previous : Option ℕ) (bytes : List ℕ) {all : Read (List Document)}
-    → read_documents n place previous bytes ≡ ok all
+    → read_documents n place previous bytes ≡ Ok all
     → 2 * length all.got + length all.rest ≤ length bytes
 unfolding read_documents
 documents_taken zero place previous bytes {all} e =
@@ -52,44 +52,44 @@ documents_taken zero place previous bytes {all} e =
     )
 documents_taken (suc n) place previous bytes {all} e =
     let (d, is, f) = bind_gives (read_document place previous bytes) _ e in
-    let (more, are, g) = bind_gives (read_documents n (suc place) (some d.got.id) d.rest) _ f in
+    let (more, are, g) = bind_gives (read_documents n (suc place) (Some d.got.id) d.rest) _ f in
     omega (
       arith,
       ap (λ (x : Read (List Document)). length x.got) (ok_same g),
       ap (λ (x : Read (List Document)). length x.rest) (ok_same g),
       document_taken place previous bytes is,
-      documents_taken n (suc place) (some d.got.id) d.rest are,
+      documents_taken n (suc place) (Some d.got.id) d.rest are,
     )
 
-pub metadata_taken : (n : ℕ) (bytes : List ℕ) {ds : List Document} → metadata n bytes ≡ ok ds → 2 * length ds ≤ length bytes
+pub metadata_taken : (n : ℕ) (bytes : List ℕ) {ds : List Document} → metadata n bytes ≡ Ok ds → 2 * length ds ≤ length bytes
 unfolding metadata
 metadata_taken n bytes e =
-    let (all, are, f) = bind_gives (read_documents n 0 none bytes) _ e in
+    let (all, are, f) = bind_gives (read_documents n 0 None bytes) _ e in
     let (_, g) = check_gives (eqb (length all.rest) 0) _ _ f in
-    omega (arith, ap length (ok_same g), documents_taken n 0 none bytes are)
+    omega (arith, ap length (ok_same g), documents_taken n 0 None bytes are)
 
 -- ---- terms
 
 entries_count : (n : ℕ) (previous : Option (List ℕ)) (dir names lists : List ℕ) {es : List Entry}
-    → read_entries n previous dir names lists ≡ ok es
+    → read_entries n previous dir names lists ≡ Ok es
     → length es ≡ n
 unfolding read_entries
 entries_count zero previous dir names lists e = omega (arith, ap length (ok_same e))
 entries_count (suc n) previous dir names lists e =
     let (d, _, f) = bind_gives (read_entry previous dir names lists) _ e in
-    let (more, are, g) = bind_gives (read_entries n (some d.name) (drop 32 dir) names lists) _ f in
-    omega (arith, ap length (ok_same g), entries_count n (some d.name) (drop 32 dir) names lists are)
+    let (more, are, g) = bind_gives (read_entries n (Some d.name) (drop 32 dir) names lists) _ f in
+    omega (arith, ap length (ok_same g), entries_count n (Some d.name) (drop 32 dir) names lists are)
 
-pub directory_taken : (n : ℕ) (dir names lists : List ℕ) {es : List Entry} → directory n dir names lists ≡ ok es
+pub directory_taken : (n : ℕ) (dir names lists : List ℕ) {es : List Entry} → directory n dir names lists ≡ Ok es
     → length dir ≡ 32 * length es
 unfolding directory
 directory_taken n dir names lists e =
     let (long, f) = check_gives (eqb (length dir) (32 * n)) _ _ e in
-    omega (arith, eqb-true (length dir) (32 * n) long, entries_count n none dir names lists f)
+    omega (arith, eqb-true (length dir) (32 * n) long, entries_count n None dir names lists f)
 
 -- ---- the segment
 
-part_taken : (section at n : ℕ) (whole : List ℕ) {l : List ℕ} → part section at n whole ≡ ok l → length l ≡ n
+part_taken : (section : Section) (at n : ℕ) (whole : List ℕ) {l : List ℕ} → part section at n whole ≡ Ok l → length l ≡ n
 unfolding part
 part_taken section at n whole e =
     let (_, f) = check_gives (ltb (at + n) (2 ^ 64)) _ _ e in
@@ -100,7 +100,7 @@ abbrev SectionsTaken : List ℕ → Sections → Type 0
 SectionsTaken bytes s = 72 + length s.directory + length s.metadata ≤ length bytes
 
 module _ (bytes : List ℕ) where
-  ranges_taken : {s : Sections} → ranges bytes ≡ ok s → SectionsTaken bytes s
+  ranges_taken : {s : Sections} → ranges bytes ≡ Ok s → SectionsTaken bytes s
   unfolding ranges
   ranges_taken e =
       let a = 72 + field 8 24 bytes in
@@ -120,7 +120,7 @@ module _ (bytes : List ℕ) where
         eqb-true (c + field 8 48 bytes) (length bytes) ends,
       )
 
-  sections_taken : {s : Sections} → sections bytes ≡ ok s → SectionsTaken bytes s
+  sections_taken : {s : Sections} → sections bytes ≡ Ok s → SectionsTaken bytes s
   unfolding sections
   sections_taken e =
       let (_, f) = check_gives (leb 72 (length bytes)) _ _ e in
@@ -133,13 +133,13 @@ module _ (bytes : List ℕ) where
 abbrev pub Holds : List ℕ → Segment → Type 0
 Holds bytes s = Rising 0 s.documents × (72 + 2 * length s.documents + 32 * length s.entries ≤ length bytes)
 
-contents_taken : (bytes : List ℕ) (p : Sections) → SectionsTaken bytes p → {s : Segment} → contents p ≡ ok s → Holds bytes s
+contents_taken : (bytes : List ℕ) (p : Sections) → SectionsTaken bytes p → {s : Segment} → contents p ≡ Ok s → Holds bytes s
 unfolding contents
 contents_taken bytes p h e =
     let (ds, d, f) = bind_gives (metadata p.documents p.metadata) _ e in
     let (es, t, g) = bind_gives (directory p.terms p.directory p.names p.lists) _ f in
     rw (← ok_same g) (
-      rw (metadata_held p.documents p.metadata d).0 at (held_rise p.documents none p.metadata),
+      rw (metadata_held p.documents p.metadata d).0 at (held_rise p.documents None p.metadata),
       omega (
         arith,
         metadata_taken p.documents p.metadata d,
@@ -147,7 +147,7 @@ contents_taken bytes p h e =
       ),
     )
 
-pub segment_taken : (bytes : List ℕ) {s : Segment} → open_segment bytes ≡ ok s → Holds bytes s
+pub segment_taken : (bytes : List ℕ) {s : Segment} → open_segment bytes ≡ Ok s → Holds bytes s
 unfolding open_segment
 segment_taken bytes e =
     let (p, is, f) = bind_gives (sections bytes) _ e in

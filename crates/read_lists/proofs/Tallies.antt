@@ -1,9 +1,9 @@
 -- Postings read one by one, with a running total of their positions, all of them or one document's: the rest from here is the whole.
 -- Assumes nothing.
+use Rattle.std.specs.Prelude.{Err, None, Ok, Option, Some}
 use mathlib.Core.Path.{◌≡◌, refl, sym, ap, ◌∙◌}
 use mathlib.Core.Bool.{Bool, true, false, cond}
 use mathlib.Core.List.{List, [], ◌∷◌}
-use mathlib.Core.Option.{Option, none, some}
 use Prim.Native.Nat.{ℕ, zero, suc, ◌+◌, ◌-◌, ◌≤◌, ◌<◌}
 use native.Mathlib.Numerals.{add-one}
 use native.Mathlib.Omega.{arith}
@@ -15,14 +15,8 @@ use Rattle.common.proofs.Loops.{left_suc, left_none}
 use Rattle.segment.specs.declared.refusal.Refusal.{Refusal}
 use Rattle.read_cursors.specs.declared.documents.Documents.{Documents}
 use Rattle.read_lists.specs.declared.lists.Head.{Head as ReadHead}
-use Rattle.read_lists.specs.declared.lists.HeadStep.{HeadStep}
-use Rattle.read_lists.specs.declared.lists.HeadStep.TheVariants as head
-use Rattle.read_lists.specs.declared.lists.PositionsStep.{PositionsStep}
-use Rattle.read_lists.specs.declared.lists.PositionsStep.TheVariants as positions
-use Rattle.read_lists.specs.declared.lists.Tally.{Tally}
-use Rattle.read_lists.specs.declared.lists.Tally.TheVariants as tally
 use Rattle.segment.specs.Refusals.{doc_id_overflow, invalid_layout, non_increasing_posting_id, trailing_posting_bytes}
-use Rattle.segment.specs.Results.{Result, ok, refuse, ◌>>=◌, check}
+use Rattle.segment.specs.Results.{Answer, ◌>>=◌, check}
 use Rattle.segment.specs.Records.{Document, Posting, Read}
 use Rattle.segment.specs.Metadata.{length_of}
 use Rattle.read_cursors.specs.Steps.{documents_from}
@@ -35,28 +29,28 @@ use Rattle.read_cursors.proofs.PostingReads.{positions_read, head_read, posting_
 
 -- ---- documents that say the same of every later id
 
-pub bind_agree : {A B : Type 0} (m : Result A) (f g : A → Result B) → ((a : A) → m ≡ ok a → f a ≡ g a) → (m >>= f) ≡ (m >>= g)
-bind_agree (ok a) f g h = h a refl
-bind_agree (refuse x) f g h = refl
+pub bind_agree : {A B : Type 0} (m : Answer A) (f g : A → Answer B) → ((a : A) → m ≡ Ok a → f a ≡ g a) → (m >>= f) ≡ (m >>= g)
+bind_agree (Ok a) f g h = h a refl
+bind_agree (Err x) f g h = refl
 
 module _ (ds es : List Document) where
   posting_agree : (place p : ℕ) (bytes : List ℕ) → ((id : ℕ) → p < id → length_of ds id ≡ length_of es id)
-      → read_posting place ds (some p) bytes ≡ read_posting place es (some p) bytes
+      → read_posting place ds (Some p) bytes ≡ read_posting place es (Some p) bytes
   unfolding read_posting read_head
   posting_agree place p bytes same =
-      ap (λ (m : Result (Read Head)). m >>= λ h. read_positions h.got.count place h.got.len none h.rest >>= λ all.
-      ok (record { got = record { doc = h.got.doc; positions = all.got }; rest = all.rest }))
-      (bind_agree (read_value (doc_id_overflow place) (invalid_layout non_increasing_posting_id) place (some p) bytes) _ _
-      (λ doc is. rw (same doc.got (ltb-true p doc.got (value_rises (value_read _ _ place (some p) bytes is))))))
+      ap (λ (m : Answer (Read Head)). m >>= λ h. read_positions h.got.count place h.got.len None h.rest >>= λ all.
+      Ok (record { got = record { doc = h.got.doc; positions = all.got }; rest = all.rest }))
+      (bind_agree (read_value (doc_id_overflow place) (invalid_layout non_increasing_posting_id) place (Some p) bytes) _ _
+      (λ doc is. rw (same doc.got (ltb-true p doc.got (value_rises (value_read _ _ place (Some p) bytes is))))))
 
   pub postings_agree : (count place p : ℕ) (bytes : List ℕ) → ((id : ℕ) → p < id → length_of ds id ≡ length_of es id)
-      → read_postings count place ds (some p) bytes ≡ read_postings count place es (some p) bytes
+      → read_postings count place ds (Some p) bytes ≡ read_postings count place es (Some p) bytes
   unfolding read_postings
   postings_agree zero place p bytes same = refl
   postings_agree (suc n) place p bytes same =
-      rw (posting_agree place p bytes same) (bind_agree (read_posting place es (some p) bytes) _ _
+      rw (posting_agree place p bytes same) (bind_agree (read_posting place es (Some p) bytes) _ _
       (λ q is.
-      let r = posting_read place es (some p) bytes is in
+      let r = posting_read place es (Some p) bytes is in
       let d = ltb-true p r.spot.doc r.rises in
       rw (postings_agree n (suc place) q.got.doc q.rest (λ id h. same id (omega (arith, ap (λ (x : Posting). x.doc) r.is))))))
 
@@ -80,62 +74,62 @@ one_counted asked = record { of_none = refl; of_more = λ p ps. refl; light = λ
     at_most true count = omega arith
     at_most false count = omega arith
 
-abbrev pub tally_from : (List Posting → ℕ) → ℕ → Result (Read (List Posting)) → Result (Read ℕ)
-tally_from number total (ok a) = ok (record { got = total + number a.got; rest = a.rest })
-tally_from number total (refuse x) = refuse x
+abbrev pub tally_from : (List Posting → ℕ) → ℕ → Answer (Read (List Posting)) → Answer (Read ℕ)
+tally_from number total (Ok a) = Ok (record { got = total + number a.got; rest = a.rest })
+tally_from number total (Err x) = Err x
 
 module _ {number : List Posting → ℕ} {weigh : ℕ → ℕ → ℕ} (sums : Sums number weigh) where
-  tally_more : (total : ℕ) (p : Posting) (m : Result (Read (List Posting)))
-      → tally_from number total (m >>= λ more. ok (record { got = p ∷ more.got; rest = more.rest }))
+  tally_more : (total : ℕ) (p : Posting) (m : Answer (Read (List Posting)))
+      → tally_from number total (m >>= λ more. Ok (record { got = p ∷ more.got; rest = more.rest }))
       ≡ tally_from number (total + weigh p.doc (length p.positions)) m
-  tally_more total p (ok a) =
+  tally_more total p (Ok a) =
       let s : total + number (p ∷ a.got) ≡ total + weigh p.doc (length p.positions) + number a.got
       = omega (arith, sums.of_more p a.got) in
-      ap (λ (n : ℕ). ok (record { got = n; rest = a.rest })) s
-  tally_more total p (refuse x) = refl
+      ap (λ (n : ℕ). Ok (record { got = n; rest = a.rest })) s
+  tally_more total p (Err x) = refl
 
 -- the postings after one
-abbrev later : (count place : ℕ) (documents : List Document) (doc : ℕ) (rest : List ℕ) → Result (Read (List Posting))
-later count place documents doc rest = read_postings count place documents (some doc) rest
+abbrev later : (count place : ℕ) (documents : List Document) (doc : ℕ) (rest : List ℕ) → Answer (Read (List Posting))
+later count place documents doc rest = read_postings count place documents (Some doc) rest
 
 -- a posting's positions, and the postings after it
-module _ (doc : ℕ) (next : ℕ → List ℕ → Result (Read (List Posting))) where
-  abbrev posting_with : Result (Read (List ℕ)) → Result (Read Posting)
-  posting_with m = m >>= λ all. ok (record { got = record { doc = doc; positions = all.got }; rest = all.rest })
+module _ (doc : ℕ) (next : ℕ → List ℕ → Answer (Read (List Posting))) where
+  abbrev posting_with : Answer (Read (List ℕ)) → Answer (Read Posting)
+  posting_with m = m >>= λ all. Ok (record { got = record { doc = doc; positions = all.got }; rest = all.rest })
 
-  abbrev with_positions : Result (Read (List ℕ)) → Result (Read (List Posting))
+  abbrev with_positions : Answer (Read (List ℕ)) → Answer (Read (List Posting))
   with_positions m =
-      posting_with m >>= λ p. next p.got.doc p.rest >>= λ more. ok (record { got = p.got ∷ more.got; rest = more.rest })
+      posting_with m >>= λ p. next p.got.doc p.rest >>= λ more. Ok (record { got = p.got ∷ more.got; rest = more.rest })
 
-  tally_refused : (number : List Posting → ℕ) (total : ℕ) (m : Result (Read (List ℕ))) {x : Refusal} → after m ≡ refuse x
-      → tally_from number total (with_positions m) ≡ refuse x
-  tally_refused number total (ok a) e = refuse_ok (sym e)
-  tally_refused number total (refuse x) e = cc
+  tally_refused : (number : List Posting → ℕ) (total : ℕ) (m : Answer (Read (List ℕ))) {x : Refusal} → after m ≡ Err x
+      → tally_from number total (with_positions m) ≡ Err x
+  tally_refused number total (Ok a) e = refuse_ok (sym e)
+  tally_refused number total (Err x) e = cc
 
   tally_posting : {number : List Posting → ℕ} {weigh : ℕ → ℕ → ℕ} → Sums number weigh → (total count place len : ℕ) (bytes : List ℕ)
-      (m : Result (Read (List ℕ))) → m ≡ read_positions count place len none bytes → {rest : List ℕ} → after m ≡ ok rest
+      (m : Answer (Read (List ℕ))) → m ≡ read_positions count place len None bytes → {rest : List ℕ} → after m ≡ Ok rest
       → tally_from number total (with_positions m) ≡ tally_from number (total + weigh doc count) (next doc rest)
-  tally_posting sums total count place len bytes (ok a) is e =
-      rw (← ok_same e, ← (positions_read count place len none bytes (sym is)).long)
+  tally_posting sums total count place len bytes (Ok a) is e =
+      rw (← ok_same e, ← (positions_read count place len None bytes (sym is)).long)
       (tally_more sums total (record { doc = doc; positions = a.got }) (next doc a.rest))
-  tally_posting sums total count place len bytes (refuse x) is e = refuse_ok e
+  tally_posting sums total count place len bytes (Err x) is e = refuse_ok e
 
 module _ {number : List Posting → ℕ} {weigh : ℕ → ℕ → ℕ} (sums : Sums number weigh) (list meta : List ℕ) (at df place total : ℕ)
-    (documents : Documents) (previous : Option ℕ) {whole : Result (Read ℕ)}
+    (documents : Documents) (previous : Option ℕ) {whole : Answer (Read ℕ)}
     (inv : tally_from number total (read_postings (df - place) place (documents_from meta documents) previous (drop at list)) ≡ whole) where
   turn : place < df
       → tally_from number total (read_posting place (documents_from meta documents) previous (drop at list) >>= λ p.
-      read_postings (df - (place + 1)) (place + 1) (documents_from meta documents) (some p.got.doc) p.rest >>= λ more.
-      ok (record { got = p.got ∷ more.got; rest = more.rest })) ≡ whole
+      read_postings (df - (place + 1)) (place + 1) (documents_from meta documents) (Some p.got.doc) p.rest >>= λ more.
+      Ok (record { got = p.got ∷ more.got; rest = more.rest })) ≡ whole
   unfolding read_postings
   turn h = rw (left_suc df place h, ← add-one place) at inv
 
-  module _ (h : place < df) (r : HeadStep) (answer : WalkedHead list at place previous meta documents r) where
-    pub stop_at_head : {x : Refusal} → r ≡ head.Refused x → refuse x ≡ whole
+  module _ (h : place < df) (r : Answer ReadHead) (answer : WalkedHead list at place previous meta documents r) where
+    pub stop_at_head : {x : Refusal} → r ≡ Err x → Err x ≡ whole
     unfolding read_posting
     stop_at_head e = rw (← answer.reads, e) at (turn h)
 
-    module _ (d : ReadHead) (e : r ≡ head.Next d) where
+    module _ (d : ReadHead) (e : r ≡ Ok d) where
       -- the metadata says the same from here on
       kept : (id : ℕ) → d.doc.0 ≤ id → length_of (documents_from meta d.documents) id ≡ length_of (documents_from meta documents) id
       kept = rw e at answer.kept
@@ -146,19 +140,19 @@ module _ {number : List Posting → ℕ} {weigh : ℕ → ℕ → ℕ} (sums : S
           (head_read place (documents_from meta documents) previous (drop at list) (sym answer.reads ∙ ap (head_means list) e)).shorter
 
       turn_2 : tally_from number total (with_positions d.doc.0 (later (df - (place + 1)) (place + 1) (documents_from meta documents))
-          (read_positions d.count place d.documents.len none (drop d.next.at list))) ≡ whole
+          (read_positions d.count place d.documents.len None (drop d.next.at list))) ≡ whole
       unfolding read_posting
       turn_2 = rw (← answer.reads, e) at (turn h)
 
-      module _ (s : PositionsStep) (found : WalkedPositions list d.count place d.documents.len d.next.at s) where
-        pub stop_at_positions : {x : Refusal} → s ≡ positions.Refused x → refuse x ≡ whole
+      module _ (s : Answer Reader) (found : WalkedPositions list d.count place d.documents.len d.next.at s) where
+        pub stop_at_positions : {x : Refusal} → s ≡ Err x → Err x ≡ whole
         stop_at_positions f =
             sym (tally_refused _ (later (df - (place + 1)) (place + 1) (documents_from meta documents)) number total
             (read_positions _ _ _ _ _) (sym found.reads ∙ ap (positions_mean list) f)) ∙ turn_2
 
-        pub postings_next : {n : Reader} → s ≡ positions.Next n → (at + weigh d.doc.0 d.count ≤ n.at)
+        pub postings_next : {n : Reader} → s ≡ Ok n → (at + weigh d.doc.0 d.count ≤ n.at)
             × (tally_from number (total + weigh d.doc.0 d.count)
-            (read_postings (df - (place + 1)) (place + 1) (documents_from meta d.documents) (some d.doc.0) (drop n.at list))
+            (read_postings (df - (place + 1)) (place + 1) (documents_from meta d.documents) (Some d.doc.0) (drop n.at list))
             ≡ whole)
         postings_next {n} f =
             let m : d.next.at + d.count ≤ n.at = rw f at found.moved in
@@ -173,7 +167,7 @@ module _ {number : List Posting → ℕ} {weigh : ℕ → ℕ → ℕ} (sums : S
                   told) ∙ turn_2),
             )
 
-  pub postings_end : df ≤ place → ok (record { got = total; rest = drop at list }) ≡ whole
+  pub postings_end : df ≤ place → Ok (record { got = total; rest = drop at list }) ≡ whole
   unfolding read_postings
   postings_end h =
       let s : total + number [] ≡ total = omega (arith, sums.of_none) in
@@ -181,33 +175,33 @@ module _ {number : List Posting → ℕ} {weigh : ℕ → ℕ → ℕ} (sums : S
 
 -- ---- all postings, then the bytes after them
 
-abbrev pub finished : Result (Read ℕ) → Tally
-finished (ok a) = cond (eqb (length a.rest) 0) (tally.Positions a.got) (tally.Refused (invalid_layout trailing_posting_bytes))
-finished (refuse x) = tally.Refused x
+abbrev pub finished : Answer (Read ℕ) → Answer ℕ
+finished (Ok a) = cond (eqb (length a.rest) 0) (Ok a.got) (Err (invalid_layout trailing_posting_bytes))
+finished (Err x) = Err x
 
 module _ (number : List Posting → ℕ) where
-  finish : (m : Result (Read (List Posting)))
-      → tallied_by number (m >>= λ all. check (eqb (length all.rest) 0) (invalid_layout trailing_posting_bytes) >>= λ _. ok all.got)
+  finish : (m : Answer (Read (List Posting)))
+      → tallied_by number (m >>= λ all. check (eqb (length all.rest) 0) (invalid_layout trailing_posting_bytes) >>= λ _. Ok all.got)
       ≡ finished (tally_from number 0 m)
-  finish (ok a) = closing (eqb (length a.rest) 0)
+  finish (Ok a) = closing (eqb (length a.rest) 0)
     where
-      closing : (t : Bool) → tallied_by number (check t (invalid_layout trailing_posting_bytes) >>= λ _. ok a.got)
-          ≡ cond t (tally.Positions (0 + number a.got)) (tally.Refused (invalid_layout trailing_posting_bytes))
-      closing true = let s : number a.got ≡ 0 + number a.got = omega arith in ap tally.Positions s
+      closing : (t : Bool) → tallied_by number (check t (invalid_layout trailing_posting_bytes) >>= λ _. Ok a.got)
+          ≡ cond t (Ok (0 + number a.got)) (Err (invalid_layout trailing_posting_bytes))
+      closing true = let s : number a.got ≡ 0 + number a.got = omega arith in ap Ok s
       closing false = refl
-  finish (refuse x) = refl
+  finish (Err x) = refl
 
   -- where the reading ended is what the decoding of all answers
-  pub finishes : (df : ℕ) (documents : List Document) (bytes : List ℕ) {r : Result (Read ℕ)}
-      → r ≡ tally_from number 0 (read_postings df 0 documents none bytes)
+  pub finishes : (df : ℕ) (documents : List Document) (bytes : List ℕ) {r : Answer (Read ℕ)}
+      → r ≡ tally_from number 0 (read_postings df 0 documents None bytes)
       → finished r ≡ tallied_by number (all_postings df documents bytes)
   unfolding all_postings
-  finishes df documents bytes e = ap finished e ∙ sym (finish (read_postings df 0 documents none bytes))
+  finishes df documents bytes e = ap finished e ∙ sym (finish (read_postings df 0 documents None bytes))
 
 pub finished_short : (total : ℕ) (s : List ℕ) (at : ℕ) → at < length s
-    → finished (ok (record { got = total; rest = drop at s })) ≡ tally.Refused (invalid_layout trailing_posting_bytes)
+    → finished (Ok (record { got = total; rest = drop at s })) ≡ Err (invalid_layout trailing_posting_bytes)
 finished_short total s at h = rw (ne_eqb (length (drop at s)) 0 (omega (arith, length-drop at s)))
 
 pub finished_whole : (total : ℕ) (s : List ℕ) (at : ℕ) → length s ≤ at
-    → finished (ok (record { got = total; rest = drop at s })) ≡ tally.Positions total
+    → finished (Ok (record { got = total; rest = drop at s })) ≡ Ok total
 finished_whole total s at h = rw (eq-eqb (length (drop at s)) 0 (omega (arith, length-drop at s)))

@@ -1,61 +1,56 @@
 -- What the code that checks documents and lists answers on the way, as the definitions of crate segment have it.
-use Rattle.std.specs.Prelude.{ℕ, ◌+◌, ◌≤◌, ◌<◌, ◌≡◌, cond, List, [], ◌∷◌, eqb, ltb, leb, length, drop, get_or}
-use Rattle.std.proofs.Math.Option.{Option, none}
+use Rattle.std.specs.Prelude.{Err, None, Ok, Option, ℕ, ◌+◌, ◌≤◌, ◌<◌, ◌≡◌, cond, List, [], ◌∷◌, eqb, ltb, leb, length, drop, get_or}
+use Rattle.read_lists.specs.declared.lists.Head.{Head as ReadHead}
+use Rattle.leb128.specs.declared.varint.Reader.{Reader}
 use Rattle.read_cursors.specs.declared.documents.Documents.{Documents}
-use Rattle.read_lists.specs.declared.lists.PositionsStep.{PositionsStep}
-use Rattle.read_lists.specs.declared.lists.PositionsStep.TheVariants as positions
-use Rattle.read_lists.specs.declared.lists.HeadStep.{HeadStep}
-use Rattle.read_lists.specs.declared.lists.HeadStep.TheVariants as head
-use Rattle.read_lists.specs.declared.lists.Tally.{Tally}
-use Rattle.read_lists.specs.declared.lists.Tally.TheVariants as tally
-use Rattle.segment.specs.Results.{Result, ok, refuse}
+use Rattle.segment.specs.Results.{Answer}
 use Rattle.segment.specs.Records.{Document, Posting, Read}
-use Rattle.segment.specs.Metadata.{document, length_of}
+use Rattle.segment.specs.Metadata.{length_of}
 use Rattle.segment.specs.Postings.{Head, read_positions, read_head, total_positions}
 use Rattle.read_cursors.specs.Held.{value_at}
 use Rattle.read_cursors.specs.Steps.{documents_from}
 
 -- the bytes after what was read
-abbrev pub after : {A : Type 0} → Result (Read A) → Result (List ℕ)
-after (ok a) = ok a.rest
-after (refuse x) = refuse x
+abbrev pub after : {A : Type 0} → Answer (Read A) → Answer (List ℕ)
+after (Ok a) = Ok a.rest
+after (Err x) = Err x
 
-abbrev pub positions_mean : List ℕ → PositionsStep → Result (List ℕ)
-positions_mean list (positions.Next r) = ok (drop r.at list)
-positions_mean list (positions.Refused x) = refuse x
+abbrev pub positions_mean : List ℕ → Answer Reader → Answer (List ℕ)
+positions_mean list (Ok r) = Ok (drop r.at list)
+positions_mean list (Err x) = Err x
 
 -- the reader advanced by a byte for each position at least, and stayed in the list
-abbrev pub Moved : List ℕ → (count at : ℕ) → PositionsStep → Type 0
-Moved list count at (positions.Next r) = at + count ≤ r.at
-Moved list count at (positions.Refused x) = Unit {0}
+abbrev pub Moved : List ℕ → (count at : ℕ) → Answer Reader → Type 0
+Moved list count at (Ok r) = at + count ≤ r.at
+Moved list count at (Err x) = Unit {0}
 
-pub record WalkedPositions (list : List ℕ) (count place len at : ℕ) (r : PositionsStep) : Type 0 where
-  pub reads : positions_mean list r ≡ after (read_positions count place len none (drop at list))
+pub record WalkedPositions (list : List ℕ) (count place len at : ℕ) (r : Answer Reader) : Type 0 where
+  pub reads : positions_mean list r ≡ after (read_positions count place len None (drop at list))
   pub moved : Moved list count at r
 
-abbrev pub head_means : List ℕ → HeadStep → Result (Read Head)
-head_means list (head.Next h) =
-    ok (record { got = record { doc = h.doc.0; len = h.documents.len; count = h.count }; rest = drop h.next.at list })
-head_means list (head.Refused x) = refuse x
+abbrev pub head_means : List ℕ → Answer ReadHead → Answer (Read Head)
+head_means list (Ok h) =
+    Ok (record { got = record { doc = h.doc.0; len = h.documents.len; count = h.count }; rest = drop h.next.at list })
+head_means list (Err x) = Err x
 
 -- from the returned cursor, the metadata says the same of every later document as from the given one
-abbrev pub Kept : (meta : List ℕ) (documents : Documents) → HeadStep → Type 0
-Kept meta documents (head.Next h) =
+abbrev pub Kept : (meta : List ℕ) (documents : Documents) → Answer ReadHead → Type 0
+Kept meta documents (Ok h) =
     (id : ℕ) → h.doc.0 ≤ id → length_of (documents_from meta h.documents) id ≡ length_of (documents_from meta documents) id
-Kept meta documents (head.Refused x) = Unit {0}
+Kept meta documents (Err x) = Unit {0}
 
 pub record WalkedHead (list : List ℕ) (at place : ℕ) (previous : Option ℕ) (meta : List ℕ) (documents : Documents)
-    (r : HeadStep) : Type 0 where
+    (r : Answer ReadHead) : Type 0 where
   pub reads : head_means list r ≡ read_head place (documents_from meta documents) previous (drop at list)
   pub kept : Kept meta documents r
 
 -- a number of the postings of a list that was decoded
-abbrev pub tallied_by : (List Posting → ℕ) → Result (List Posting) → Tally
-tallied_by number (ok ps) = tally.Positions (number ps)
-tallied_by number (refuse x) = tally.Refused x
+abbrev pub tallied_by : (List Posting → ℕ) → Answer (List Posting) → Answer ℕ
+tallied_by number (Ok ps) = Ok (number ps)
+tallied_by number (Err x) = Err x
 
 -- the number of positions of a list that was decoded
-abbrev pub tallied : Result (List Posting) → Tally
+abbrev pub tallied : Answer (List Posting) → Answer ℕ
 tallied r = tallied_by total_positions r
 
 -- how many positions the postings have in one document
@@ -64,7 +59,7 @@ positions_in doc [] = 0
 positions_in doc (p ∷ ps) = cond (eqb p.doc doc) (length p.positions) 0 + positions_in doc ps
 
 -- the number of one document's positions in a list that was decoded
-abbrev pub tallied_in : (doc : ℕ) → Result (List Posting) → Tally
+abbrev pub tallied_in : (doc : ℕ) → Answer (List Posting) → Answer ℕ
 tallied_in doc r = tallied_by (positions_in doc) r
 
 -- ---- cursors spread over the metadata
@@ -82,7 +77,7 @@ pub record Marks (meta : List ℕ) (ds : List Document) (marks : List Documents)
 
 -- the value at an offset, if there is one
 pub record Peeked (list : List ℕ) (previous : Option ℕ) (at r : ℕ) : Type 0 where
-  pub same : (v : Read ℕ) → value_at previous (drop at list) ≡ ok v → r ≡ v.got
+  pub same : (v : Read ℕ) → value_at previous (drop at list) ≡ Ok v → r ≡ v.got
 
 -- the mark, where it is further on than the cursor at hand and not past the document
 abbrev pub nearer_of : (known mark : Documents) (doc : ℕ) → Documents

@@ -1,62 +1,48 @@
 // Posting lists: checked in document 01's order. The known-document test walks the metadata alongside the postings: both rise, so no
 // posting costs a search.
-ghost use Rattle.std.specs.Prelude.{◌≡◌, cond, eqb, drop};
-ghost use Rattle.std.proofs.Math.Option.{none};
+ghost use Rattle.std.specs.Prelude.{None, ◌≡◌, cond, eqb, drop};
 ghost use Rattle.segment.specs.Postings.{all_postings};
-ghost use Rattle.segment.specs.Steps.{earlier};
+ghost use Rattle.segment.specs.Steps.{id_of};
 ghost use Rattle.read_lists.specs.Steps.{WalkedPositions, WalkedHead, Marks, tallied, tallied_in};
 ghost use Rattle.read_cursors.specs.Held.{held_documents};
 
 use crate::marks::{nearer, peek, place_for};
-use leb128::varint::{Decoded, Reader};
+use leb128::varint::Reader;
 use read_cursors::documents::Documents;
-use read_cursors::values::{ValueStep, read_value};
-use segment::ids::{DocId, TokenPos};
-use segment::refusal::{
-    DOC_ID_OVERFLOW, EMPTY_POSITION_LIST, NON_INCREASING_POSITION, NON_INCREASING_POSTING_ID,
-    POSITION_EXCEEDS_LENGTH, POSITION_OVERFLOW, POSTINGS, Refusal, TRAILING_POSTING_BYTES,
-    UNKNOWN_DOCUMENT, invalid_layout, invalid_varint,
-};
+use read_cursors::values::read_value;
+use segment::ids::DocId;
+use segment::refusal::{Reason, Refusal, Section};
 
-// The reader after positions that were checked.
-#[derive(Clone, Copy)]
-pub enum PositionsStep {
-    Next(Reader),
-    Refused(Refusal),
-}
-
-// All positions of a posting: per position the number, overflow, order, length. `place` is the posting's index in its list.
-fn read_positions(list: &[u8], from: Reader, count: u32, place: u32, len: u32) -> PositionsStep
+// All positions of a posting: per position the number, overflow, order, length; answers the reader after them. `place` is the posting's
+// index in its list.
+fn read_positions(
+    list: &[u8],
+    from: Reader,
+    count: u32,
+    place: u32,
+    len: u32,
+) -> Result<Reader, Refusal>
     ensures { WalkedPositions list.now count place len from.at result }
 {
     let mut reader = from;
-    let mut previous = TokenPos(0);
-    let mut i: u32 = 0;
-    while i < count {
+    let mut previous = None;
+    for i in 0..count {
         let index = place as u64 + i as u64;
-        match read_value(
+        let position = read_value(
             list,
             reader,
-            i == 0,
-            previous.0,
-            POSITION_OVERFLOW,
-            NON_INCREASING_POSITION,
+            previous,
+            Refusal::PositionOverflow(index),
+            Reason::NonIncreasingPosition,
             index,
-        ) {
-            ValueStep::Next(position) => {
-                if len <= position.value {
-                    return PositionsStep::Refused(invalid_layout(POSITION_EXCEEDS_LENGTH));
-                }
-                reader = position.next;
-                previous = TokenPos(position.value);
-                i += 1;
-            }
-            ValueStep::Refused(x) => {
-                return PositionsStep::Refused(x);
-            }
+        )?;
+        if len <= position.value {
+            return Err(Refusal::InvalidLayout(Reason::PositionExceedsLength));
         }
+        reader = position.next;
+        previous = Some(position.value);
     }
-    PositionsStep::Next(reader)
+    Ok(reader)
 }
 
 // A posting up to its positions, and the metadata's cursor at its document: the next posting's search starts there.
@@ -68,102 +54,69 @@ pub struct Head {
     pub documents: Documents,
 }
 
-#[derive(Clone, Copy)]
-pub enum HeadStep {
-    Next(Head),
-    Refused(Refusal),
-}
-
 // A posting up to its positions: the gap, overflow, order, known document, count, count 0.
 fn read_head(
     list: &[u8],
     from: Reader,
     place: u32,
-    previous: DocId,
+    previous: Option<DocId>,
     meta: &[u8],
     documents: Documents,
-) -> HeadStep
-    ensures { WalkedHead list.now from.at place (earlier (eqb place 0) previous.0) meta.now documents result }
+) -> Result<Head, Refusal>
+    ensures { WalkedHead list.now from.at place (id_of previous) meta.now documents result }
 {
     let index = place as u64;
-    let gap = match read_value(
+    let gap = read_value(
         list,
         from,
-        place == 0,
-        previous.0,
-        DOC_ID_OVERFLOW,
-        NON_INCREASING_POSTING_ID,
+        previous.map(|id| id.0),
+        Refusal::DocIdOverflow(index),
+        Reason::NonIncreasingPostingId,
         index,
-    ) {
-        ValueStep::Next(value) => value,
-        ValueStep::Refused(x) => {
-            return HeadStep::Refused(x);
-        }
-    };
+    )?;
     let doc = DocId(gap.value);
     let here = documents.seek(meta, doc);
-    let found = here.id;
-    if here.remaining == 0 || found.0 != doc.0 {
-        return HeadStep::Refused(invalid_layout(UNKNOWN_DOCUMENT));
+    if here.remaining == 0 || here.id.0 != doc.0 {
+        return Err(Refusal::InvalidLayout(Reason::UnknownDocument));
     }
-    let after = gap.next;
-    let Decoded::Value(count) = after.decode_u32(list) else {
-        return HeadStep::Refused(invalid_varint(POSTINGS, index));
+    let Some(count) = gap.next.decode_u32(list) else {
+        return Err(Refusal::InvalidVarint(Section::Postings, index));
     };
     if count.value == 0 {
-        return HeadStep::Refused(invalid_layout(EMPTY_POSITION_LIST));
+        return Err(Refusal::InvalidLayout(Reason::EmptyPositionList));
     }
-    let next = count.next;
-    HeadStep::Next(Head {
-        doc: doc,
+    Ok(Head {
+        doc,
         count: count.value,
-        next: next,
+        next: count.next,
         documents: here,
     })
 }
 
-// How many positions a checked list has, in all or in one document.
-#[derive(Clone, Copy)]
-pub enum Tally {
-    Positions(usize),
-    Refused(Refusal),
-}
-
 // All postings of a list, then trailing bytes; answers the number of positions.
-pub fn decode_postings_bytes(list: &[u8], df: u32, meta: &[u8], documents: u32) -> Tally
-    ensures { result ≡ tallied (all_postings df (held_documents documents none meta.now) list.now) }
+pub fn decode_postings_bytes(
+    list: &[u8],
+    df: u32,
+    meta: &[u8],
+    documents: u32,
+) -> Result<usize, Refusal>
+    ensures { result ≡ tallied (all_postings df (held_documents documents None meta.now) list.now) }
 {
     let mut known = Documents::start(meta, documents);
     let mut reader = Reader { at: 0 };
-    let mut previous = DocId(0);
+    let mut previous = None;
     let mut total: usize = 0;
-    let mut place: u32 = 0;
-    while place < df {
-        match read_head(list, reader, place, previous, meta, known) {
-            HeadStep::Next(head) => {
-                let first = head.next;
-                known = head.documents;
-                match read_positions(list, first, head.count, place, known.len) {
-                    PositionsStep::Next(next) => {
-                        reader = next;
-                    }
-                    PositionsStep::Refused(x) => {
-                        return Tally::Refused(x);
-                    }
-                }
-                previous = head.doc;
-                total += head.count as usize;
-                place += 1;
-            }
-            HeadStep::Refused(x) => {
-                return Tally::Refused(x);
-            }
-        }
+    for place in 0..df {
+        let head = read_head(list, reader, place, previous, meta, known)?;
+        known = head.documents;
+        reader = read_positions(list, head.next, head.count, place, known.len)?;
+        previous = Some(head.doc);
+        total += head.count as usize;
     }
     if reader.at < list.len() {
-        return Tally::Refused(invalid_layout(TRAILING_POSTING_BYTES));
+        return Err(Refusal::InvalidLayout(Reason::TrailingPostingBytes));
     }
-    Tally::Positions(total)
+    Ok(total)
 }
 
 // How many positions a posting adds to one document's: none if it is of another.
@@ -186,42 +139,26 @@ pub fn decode_postings_in(
     doc: DocId,
     marks: [Documents; 128],
     ids: &[u32; 128],
-) -> Tally
-    requires { Marks meta.now (held_documents documents none meta.now) marks }
-    ensures { result ≡ tallied_in doc.0 (all_postings df (held_documents documents none meta.now) list.now) }
+) -> Result<usize, Refusal>
+    requires { Marks meta.now (held_documents documents None meta.now) marks }
+    ensures { result ≡ tallied_in doc.0 (all_postings df (held_documents documents None meta.now) list.now) }
 {
     let mut known = Documents::start(meta, documents);
     let mut reader = Reader { at: 0 };
-    let mut previous = DocId(0);
+    let mut previous = None;
     let mut total: usize = 0;
-    let mut place: u32 = 0;
-    while place < df {
-        let target = peek(list, reader, place == 0, previous.0);
+    for place in 0..df {
+        let target = peek(list, reader, previous);
         let mark = marks[place_for(ids, known.id, target)];
         let near = nearer(known, mark, target);
-        match read_head(list, reader, place, previous, meta, near) {
-            HeadStep::Next(head) => {
-                let first = head.next;
-                known = head.documents;
-                match read_positions(list, first, head.count, place, known.len) {
-                    PositionsStep::Next(next) => {
-                        reader = next;
-                    }
-                    PositionsStep::Refused(x) => {
-                        return Tally::Refused(x);
-                    }
-                }
-                previous = head.doc;
-                total += count_in(head.doc, head.count, doc) as usize;
-                place += 1;
-            }
-            HeadStep::Refused(x) => {
-                return Tally::Refused(x);
-            }
-        }
+        let head = read_head(list, reader, place, previous, meta, near)?;
+        known = head.documents;
+        reader = read_positions(list, head.next, head.count, place, known.len)?;
+        previous = Some(head.doc);
+        total += count_in(head.doc, head.count, doc) as usize;
     }
     if reader.at < list.len() {
-        return Tally::Refused(invalid_layout(TRAILING_POSTING_BYTES));
+        return Err(Refusal::InvalidLayout(Reason::TrailingPostingBytes));
     }
-    Tally::Positions(total)
+    Ok(total)
 }

@@ -1,9 +1,9 @@
 -- The table of lengths: every entry is true of the documents.
 -- Assumes nothing.
+use Rattle.std.specs.Prelude.{Some}
 use mathlib.Core.Path.{◌≡◌, refl, sym, ◌∙◌}
 use mathlib.Core.List.{List}
 use mathlib.Core.Logic.{⊎_elim}
-use mathlib.Core.Option.{some}
 use Prim.Native.Nat.{ℕ, zero, suc, ◌+◌, ◌*◌, ◌/◌, ◌%◌, ◌^◌, ◌≤◌, ◌<◌}
 use native.Mathlib.Omega.{arith}
 use borrow.Author.Tests.{eq-eqb}
@@ -16,10 +16,10 @@ use Rattle.segment.specs.Metadata.{length_of}
 use Rattle.read_cursors.specs.declared.documents.Documents.{Documents}
 use Rattle.read_cursors.specs.Steps.{documents_at, AdvancedDocuments}
 use Rattle.read_lists.proofs.MarksHeld.{mark_next}
-use Rattle.read_many.specs.Steps.{Truth, Truthful, LengthTold, MarkHere, BlockFilled}
+use Rattle.read_many.specs.Steps.{Truth, Truthful, MarkHere}
 
 pub entry_true : (documents : List Document) (id len entry : ℕ) → entry ≡ id * 2 ^ 32 + len → len < 2 ^ 32
-    → length_of documents id ≡ some len → Truth documents entry
+    → length_of documents id ≡ Some len → Truth documents entry
 entry_true documents id len entry e small known h =
     let a : entry / 2 ^ 32 ≡ id = omega arith in
     let b : entry % 2 ^ 32 ≡ len = omega arith in
@@ -48,16 +48,10 @@ truthful_empty documents n = record { each = λ j. rw (nothing j) (λ h. absurd 
         (λ (h : n ≤ j). get_or-eq_default (replicate n 0) 0 (omega (arith, length-replicate {A = ℕ} n 0)))
         (lt_or_ge j n)
 
--- a length that the table tells
-pub told_true : (documents : List Document) {entry doc r : ℕ} → Truth documents entry → LengthTold entry doc r → 0 < r
-    → length_of documents doc ≡ some r
-told_true documents {entry} {doc} {r} t l h =
-    rw (← l.named h, l.told h) (t (omega (arith, l.told h)))
-
 -- ---- a block's documents put into the table
 
 -- the document at a cursor is known
-at_mark : (meta : List ℕ) (at id len remaining : ℕ) → 0 < remaining → length_of (documents_at remaining at id len meta) id ≡ some len
+at_mark : (meta : List ℕ) (at id len remaining : ℕ) → 0 < remaining → length_of (documents_at remaining at id len meta) id ≡ Some len
 unfolding documents_at length_of
 at_mark meta at id len zero h = absurd (omega arith)
 at_mark meta at id len (suc n) h = rw (eq-eqb id id refl)
@@ -68,11 +62,6 @@ pub record Filling (meta : List ℕ) (c r : Documents) (before after : List ℕ)
   pub moved : c.remaining ≤ r.remaining → r.id.0 ≡ c.id.0
   pub stays : (documents : List Document) → MarkHere meta documents c → Truthful documents before → Truthful documents after
   pub marks : (documents : List Document) → MarkHere meta documents c → MarkHere meta documents r
-
-pub filling_start : (meta : List ℕ) (c : Documents) (table : List ℕ) → c.len < 2 ^ 32
-    → Filling meta c c table table
-filling_start meta c table small =
-    record { small = small; fewer = omega arith; moved = λ h. refl; stays = λ documents m t. t; marks = λ documents m. m }
 
 module _ {meta : List ℕ} {c r : Documents} {before after : List ℕ} (f : Filling meta c r before after) where
   pub filling_next : (k entry : ℕ) {next : Documents} → 0 < r.remaining → entry ≡ r.id.0 * 2 ^ 32 + r.len → next.len < 2 ^ 32
@@ -86,15 +75,3 @@ module _ {meta : List ℕ} {c r : Documents} {before after : List ℕ} (f : Fill
         (sym (f.marks documents m h r.id.0 (omega arith)) ∙ at_mark meta r.at r.id.0 r.len r.remaining h));
     marks = λ documents m. mark_next meta documents r next a (f.marks documents m h);
   }
-
-  pub filled_taken : c.id.0 < r.id.0 → BlockFilled meta c r before after
-  filled_taken h = record {
-    fewer = λ some_left.
-        ⊎_elim (λ (g : r.remaining < c.remaining). g) (λ (g : c.remaining ≤ r.remaining). absurd (omega (arith, f.moved g)))
-        (lt_or_ge r.remaining c.remaining);
-    stays = f.stays;
-    marks = f.marks;
-  }
-
-  pub filled_end : r.remaining ≡ 0 → BlockFilled meta c r before after
-  filled_end h = record { fewer = λ some_left. omega arith; stays = f.stays; marks = f.marks }

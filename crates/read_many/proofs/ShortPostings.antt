@@ -1,8 +1,8 @@
 -- A short posting told by one word is read by the definitions.
 -- Assumes nothing.
+use Rattle.std.specs.Prelude.{None, Some}
 use mathlib.Core.Path.{◌≡◌, refl, sym, ap, ◌∙◌}
 use mathlib.Core.List.{List, [], ◌∷◌, ◌++◌}
-use mathlib.Core.Option.{none, some}
 use Prim.Native.Nat.{ℕ, zero, suc, ◌+◌, ◌-◌, ◌*◌, ◌/◌, ◌%◌, ◌^◌, ◌≤◌, ◌<◌}
 use native.Mathlib.Omega.{arith}
 use lib.Bits.{bit_and}
@@ -14,28 +14,27 @@ use Rattle.common.proofs.Bytes.{Bytes, one, each_below}
 use Rattle.segment.specs.Records.{little_endian, field}
 use Rattle.segment.specs.Postings.{read_positions}
 use Rattle.read_many.specs.Steps.{Leaves, Placed, Short}
-use Rattle.read_many.proofs.Words.{first_byte, other_bytes, bytes_taken, word_taken, word_byte}
-use Rattle.read_many.proofs.Words.{all_low, highs, all_up, mask, word_sum}
+use Rattle.read_many.proofs.Words.{first_byte, other_bytes, bytes_taken, word_taken, word_byte, all_low, highs, all_up, mask, word_sum}
 use Rattle.read_many.proofs.Passing.{one_byte, one_more, posted_of}
 
 -- ---- gaps of one byte each
 
 module _ (len : ℕ) (small : len < 2 ^ 32) (rest : List ℕ) where
   placed_later : (gs : List ℕ) (p : ℕ) → ((i : ℕ) → i < length gs → 0 < get_or gs i 0) → ((i : ℕ) → get_or gs i 0 < 32) → p + total gs < len
-      → Leaves (λ index. read_positions (length gs) index len (some p) (gs ++ rest)) rest
+      → Leaves (λ index. read_positions (length gs) index len (Some p) (gs ++ rest)) rest
   unfolding read_positions
   placed_later [] p up low h = λ index. ([], refl)
   placed_later (g ∷ gs) p up low h =
       let b = low 0 in
       let u = up 0 (omega arith) in
-      one_more (g ∷ gs ++ rest) 0 len (one_byte (g ∷ gs ++ rest) 0 g 1 (omega arith) refl (omega arith) refl) small (some p) (p + g) refl
+      one_more (g ∷ gs ++ rest) 0 len (one_byte (g ∷ gs ++ rest) 0 g 1 (omega arith) refl (omega arith) refl) small (Some p) (p + g) refl
       (lt-ltb p (p + g) (omega arith)) (omega arith) (length gs) rest
       (placed_later gs (p + g) (λ i j. up (suc i) (omega arith)) (λ i. low (suc i)) (omega arith))
 
   placed_all : (g : ℕ) (gs : List ℕ) → g < 32 → ((i : ℕ) → i < length gs → 0 < get_or gs i 0) → ((i : ℕ) → get_or gs i 0 < 32)
       → g + total gs < len → Placed (suc (length gs)) len (g ∷ gs ++ rest) rest
   placed_all g gs b up low h =
-      one_more (g ∷ gs ++ rest) 0 len (one_byte (g ∷ gs ++ rest) 0 g 1 (omega arith) refl (omega arith) refl) small none g refl
+      one_more (g ∷ gs ++ rest) 0 len (one_byte (g ∷ gs ++ rest) 0 g 1 (omega arith) refl (omega arith) refl) small None g refl
       refl (omega arith) (length gs) rest (placed_later gs g up low h)
 
 -- ---- the tests of a word

@@ -1,8 +1,7 @@
 -- What the code promises on the way. A step says: if the list is in order from here on, then it was from there on.
-use Rattle.std.specs.Prelude.{ℕ, zero, suc, ◌≤◌, ◌<◌, ◌+◌, ◌/◌, ◌%◌, ◌^◌, ◌≡◌, Bool, true, List, length, drop, take, get_or}
-use Rattle.std.proofs.Math.Option.{none, some}
+use Rattle.std.specs.Prelude.{None, Ok, Some, ℕ, zero, suc, ◌≤◌, ◌<◌, ◌+◌, ◌/◌, ◌%◌, ◌^◌, ◌≡◌, List, length, drop, take, get_or}
 use Rattle.segment.specs.Refusals.{postings}
-use Rattle.segment.specs.Results.{Result, ok}
+use Rattle.segment.specs.Results.{Answer}
 use Rattle.segment.specs.Records.{Document, Posting, Read, number, between}
 use Rattle.segment.specs.Metadata.{length_of}
 use Rattle.segment.specs.Postings.{read_positions, read_postings}
@@ -14,24 +13,24 @@ use Rattle.read_many.specs.Promise.{Decodes}
 -- ---- one posting
 
 -- a reading succeeds and leaves these bytes, whichever index its refusals would name
-abbrev pub Leaves : {A : Type 0} → (ℕ → Result (Read A)) → List ℕ → Type 0
-Leaves {A} reads rest = (index : ℕ) → (a : A) × (reads index ≡ ok (record { got = a; rest = rest }))
+abbrev pub Leaves : {A : Type 0} → (ℕ → Answer (Read A)) → List ℕ → Type 0
+Leaves {A} reads rest = (index : ℕ) → (a : A) × (reads index ≡ Ok (record { got = a; rest = rest }))
 
 -- positions in order, below a document's length
 abbrev pub Placed : (count len : ℕ) (bytes rest : List ℕ) → Type 0
-Placed count len bytes rest = Leaves (λ index. read_positions count index len none bytes) rest
+Placed count len bytes rest = Leaves (λ index. read_positions count index len None bytes) rest
 
 -- the rest of a list is read to its end, whichever index its refusals would name
-pub record EndsWell (reads : Result (Read (List Posting))) : Type 0 where
+pub record EndsWell (reads : Answer (Read (List Posting))) : Type 0 where
   pub all : Read (List Posting)
-  pub is : reads ≡ ok all
+  pub is : reads ≡ Ok all
   pub ends : length all.rest ≡ 0
 
 -- a posting past its gap: the number of its positions, and the positions, in a document of this length
 pub record Posted (len : ℕ) (bytes rest : List ℕ) : Type 0 where
   pub count : ℕ
   pub first : List ℕ
-  pub counted : (index : ℕ) → number postings index bytes ≡ ok (record { got = count; rest = first })
+  pub counted : (index : ℕ) → number postings index bytes ≡ Ok (record { got = count; rest = first })
   pub has_positions : 0 < count
   pub placed : Placed count len first rest
 
@@ -46,9 +45,9 @@ pub record Short (list : List ℕ) (at len count : ℕ) : Type 0 where
 pub record SurePosting (documents : List Document) (later doc : ℕ) (bytes : List ℕ) : Type 0 where
   pub len : ℕ
   pub rest : List ℕ
-  pub known : length_of documents doc ≡ some len
+  pub known : length_of documents doc ≡ Some len
   pub posted : Posted len bytes rest
-  pub follow : (index : ℕ) → EndsWell (read_postings later index documents (some doc) rest)
+  pub follow : (index : ℕ) → EndsWell (read_postings later index documents (Some doc) rest)
 
 abbrev pub SureFrom : (documents : List Document) (remaining doc : ℕ) (bytes : List ℕ) → Type 0
 SureFrom documents zero doc bytes = length bytes ≡ 0
@@ -60,26 +59,27 @@ Sure documents list c = SureFrom documents c.remaining c.doc (drop c.at list)
 
 -- a cursor further on in a list: if the list is in order from there, it is from here
 pub record Stepped (list : List ℕ) (len : ℕ) (c r : Cursor) : Type 0 where
-  pub fewer : r.remaining ≤ c.remaining
-  pub sure : (documents : List Document) → length_of documents c.doc ≡ some len → Sure documents list r → Sure documents list c
+  pub fewer : r.remaining < c.remaining
+  pub sure : (documents : List Document) → length_of documents c.doc ≡ Some len → Sure documents list r → Sure documents list c
 
 -- ---- the table of lengths
 
 -- what an entry of the table says is true of the documents: the document's id, and below it its length; length 0 says nothing
 abbrev pub Truth : List Document → ℕ → Type 0
-Truth documents entry = 0 < entry % 2 ^ 32 → length_of documents (entry / 2 ^ 32) ≡ some (entry % 2 ^ 32)
+Truth documents entry = 0 < entry % 2 ^ 32 → length_of documents (entry / 2 ^ 32) ≡ Some (entry % 2 ^ 32)
 
 pub record Truthful (documents : List Document) (table : List ℕ) : Type 0 where
   pub each : (j : ℕ) → Truth documents (get_or table j 0)
 
--- a length that is not 0 is the entry's, and the entry is the document's
+-- a length is the entry's, which is the document's and not empty
 pub record LengthTold (entry doc r : ℕ) : Type 0 where
-  pub named : 0 < r → entry / 2 ^ 32 ≡ doc
-  pub told : 0 < r → r ≡ entry % 2 ^ 32
+  pub named : entry / 2 ^ 32 ≡ doc
+  pub told : r ≡ entry % 2 ^ 32
+  pub some_length : 0 < r
 
--- a length that is not 0 is what the documents say, if the table is true of them
+-- a length is what the documents say, if the table is true of them
 pub record LengthKnown (table : List ℕ) (doc r : ℕ) : Type 0 where
-  pub known : (documents : List Document) → Truthful documents table → 0 < r → length_of documents doc ≡ some r
+  pub known : (documents : List Document) → Truthful documents table → length_of documents doc ≡ Some r
 
 -- a cursor that is not at the metadata's end says of every document from its own id on what the documents say
 abbrev pub MarkHere : (meta : List ℕ) (documents : List Document) → Documents → Type 0
@@ -97,52 +97,40 @@ pub record BlockFilled (meta : List ℕ) (c r : Documents) (before after : List 
 pub record Walked (list table : List ℕ) (c r : Cursor) : Type 0 where
   pub sure : (documents : List Document) → Truthful documents table → Sure documents list r → Sure documents list c
 
+-- what is read of a table of cursors past its end
+abbrev pub no_cursor : Cursor
+no_cursor = record { at = 0; doc = 0; remaining = 0 }
+
 -- list k is in order from its cursor on
-abbrev pub SureList : (documents : List Document) (bytes ends ats remaining docs : List ℕ) (k : ℕ) → Type 0
-SureList documents bytes ends ats remaining docs k =
-    SureFrom documents (get_or remaining k 0) (get_or docs k 0) (drop (get_or ats k 0) (take (get_or ends k 0) bytes))
+abbrev pub SureList : (documents : List Document) (bytes ends : List ℕ) (cursors : List Cursor) (k : ℕ) → Type 0
+SureList documents bytes ends cursors k = Sure documents (take (get_or ends k 0) bytes) (get_or cursors k no_cursor)
 
--- the tables of cursors have a place for each of 128 lists
-pub record Tables (ats remaining docs : List ℕ) : Type 0 where
-  pub ats_long : length ats ≡ 128
-  pub remaining_long : length remaining ≡ 128
-  pub docs_long : length docs ≡ 128
-
--- m lists lie in the bytes, and have a cursor each
-pub record Walkable (bytes : List ℕ) (m : ℕ) (ends ats remaining docs : List ℕ) : Type 0 where
+-- m lists lie in the bytes; the tables have a place for each
+pub record Walkable (bytes : List ℕ) (m : ℕ) (ends : List ℕ) : Type 0 where
   pub few : m ≤ 128
   pub inside : (k : ℕ) → k < m → get_or ends k 0 ≤ length bytes
-  pub tables : Tables ats remaining docs
 
 -- lists taken through a block: if one is in order from its new cursor on, it is from its old
-pub record ListsWalked (bytes ends table ats remaining docs ats' remaining' docs' : List ℕ) : Type 0 where
-  pub tables : Tables ats' remaining' docs'
+pub record ListsWalked (bytes ends table : List ℕ) (cursors cursors' : List Cursor) : Type 0 where
   pub sure : (documents : List Document) → Truthful documents table → (k : ℕ)
-      → SureList documents bytes ends ats' remaining' docs' k → SureList documents bytes ends ats remaining docs k
+      → SureList documents bytes ends cursors' k → SureList documents bytes ends cursors k
 
 -- past the first gap of each list: if a list is in order from there, it decodes
-pub record Entered (bytes : List ℕ) (m : ℕ) (ends dfs starts ats docs : List ℕ) : Type 0 where
+pub record Entered (bytes : List ℕ) (m : ℕ) (starts ends dfs : List ℕ) (cursors : List Cursor) : Type 0 where
   pub inside : (k : ℕ) → k < m → get_or ends k 0 ≤ length bytes
-  pub decodes : (documents : List Document) (k : ℕ) → k < m → SureList documents bytes ends ats dfs docs k
+  pub decodes : (documents : List Document) (k : ℕ) → k < m → SureList documents bytes ends cursors k
       → Decodes (get_or dfs k 0) documents (between (get_or starts k 0) (get_or ends k 0) bytes)
 
-pub record ListsEntered (bytes : List ℕ) (m : ℕ) (ends dfs starts ats docs : List ℕ) (r : Bool) : Type 0 where
-  pub entered : r ≡ true → Entered bytes m ends dfs starts ats docs
-  pub ats_long : length ats ≡ 128
-  pub docs_long : length docs ≡ 128
-
 -- no posting of a list remains, and its cursor is at its end
-pub record Ended (m : ℕ) (ends ats remaining : List ℕ) : Type 0 where
-  pub none_remains : (k : ℕ) → k < m → get_or remaining k 0 ≡ 0
-  pub at_end : (k : ℕ) → k < m → get_or ends k 0 ≤ get_or ats k 0
+pub record Ended (m : ℕ) (ends : List ℕ) (cursors : List Cursor) : Type 0 where
+  pub none_remains : (k : ℕ) → k < m → (get_or cursors k no_cursor).remaining ≡ 0
+  pub at_end : (k : ℕ) → k < m → get_or ends k 0 ≤ (get_or cursors k no_cursor).at
 
 -- and the table of lengths is true
-pub record BlocksWalkable (documents : List Document) (bytes : List ℕ) (m : ℕ) (ends ats remaining docs table : List ℕ) : Type 0 where
-  pub lists : Walkable bytes m ends ats remaining docs
+pub record BlocksWalkable (documents : List Document) (bytes : List ℕ) (m : ℕ) (ends table : List ℕ) : Type 0 where
+  pub lists : Walkable bytes m ends
   pub truthful : Truthful documents table
 
--- where the answer is true, every list was in order from its cursor on
-pub record BlocksWalked (documents : List Document) (bytes : List ℕ) (m : ℕ) (ends ats remaining docs ats' remaining' docs' : List ℕ)
-    (r : Bool) : Type 0 where
-  pub sure : r ≡ true → (k : ℕ) → k < m → SureList documents bytes ends ats remaining docs k
-  pub tables : Tables ats' remaining' docs'
+-- every list is in order from its cursor on
+pub record BlocksWalked (documents : List Document) (bytes : List ℕ) (m : ℕ) (ends : List ℕ) (cursors : List Cursor) : Type 0 where
+  pub sure : (k : ℕ) → k < m → SureList documents bytes ends cursors k

@@ -1,7 +1,7 @@
 // The lengths of a block of documents, by id modulo 1024: a block ends before the first document whose place is taken. An entry names its
 // document, so what older blocks left in the table stays true, and nothing has to be cleared. An empty place reads as taken by document 0:
 // where the documents start with it, it is a block by itself.
-ghost use Rattle.std.specs.Prelude.{◌≡◌, ◌+◌, ◌*◌, ◌^◌};
+ghost use Rattle.std.specs.Prelude.{IfSome, ◌≡◌, ◌+◌, ◌*◌, ◌^◌};
 ghost use Rattle.read_many.specs.Steps.{LengthTold, LengthKnown, BlockFilled};
 
 use common::widths::{long, wide};
@@ -15,19 +15,20 @@ fn entry_of(id: u32, len: u32) -> u64
     wide(id) * 4294967296 + wide(len)
 }
 
-// The length of a document from the entry at its place; 0 where the entry is of another document.
-fn length_in(entry: u64, doc: u32) -> u32
-    ensures { LengthTold entry doc result }
+// The length of a document from the entry at its place; none where the entry is of another document, or empty.
+fn length_in(entry: u64, doc: u32) -> Option<u32>
+    ensures { IfSome result (LengthTold entry doc) }
 {
-    if entry / 4294967296 != wide(doc) {
-        return 0;
+    let len = (entry % 4294967296) as u32;
+    if entry / 4294967296 != wide(doc) || len == 0 {
+        return None;
     }
-    (entry % 4294967296) as u32
+    Some(len)
 }
 
-// The length of a document if the table has it, else 0.
-pub fn length_of(table: &[u64; 1024], doc: u32) -> u32
-    ensures { LengthKnown table.now doc result }
+// The length of a document if the table has it.
+pub fn length_of(table: &[u64; 1024], doc: u32) -> Option<u32>
+    ensures { IfSome result (LengthKnown table.now doc) }
 {
     length_in(table[long(doc % 1024)], doc)
 }
@@ -40,14 +41,11 @@ pub fn fill_block(meta: &[u8], from: Documents, table: &mut [u64; 1024]) -> Docu
     let first = from.id;
     let mut c = from;
     while 0 < c.remaining {
-        let id = c.id;
-        let place = long(id.0 % 1024);
-        if first.0 < id.0 {
-            if wide(first.0) <= table[place] / 4294967296 {
-                return c;
-            }
+        let place = long(c.id.0 % 1024);
+        if first.0 < c.id.0 && wide(first.0) <= table[place] / 4294967296 {
+            return c;
         }
-        table[place] = entry_of(id.0, c.len);
+        table[place] = entry_of(c.id.0, c.len);
         c = c.advance(meta);
     }
     c
@@ -58,6 +56,5 @@ pub fn limit_of(behind: Documents) -> u64 {
     if behind.remaining == 0 {
         return 4294967296;
     }
-    let id = behind.id;
-    wide(id.0)
+    wide(behind.id.0)
 }

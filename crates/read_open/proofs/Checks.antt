@@ -1,9 +1,10 @@
 -- An entry's checks in the order of the code's tests: each refusal, and the entry that passes.
 -- Assumes nothing.
+use Rattle.std.specs.Prelude.{Err, Ok, Option}
+use Rattle.segment.specs.Results.{Answer}
 use mathlib.Core.Path.{◌≡◌, sym, ap, ◌∙◌}
-use mathlib.Core.Bool.{Bool, true, false}
+use mathlib.Core.Bool.{true, false}
 use mathlib.Core.List.{List}
-use mathlib.Core.Option.{Option}
 use Prim.Native.Nat.{ℕ, ◌-◌, ◌≤◌}
 use native.Mathlib.Omega.{arith}
 use lib.Dec.{ltb}
@@ -12,19 +13,13 @@ use lib.Seq.{take_all}
 use borrow.Author.Tests.{lt-ltb, le-ltb}
 use Rattle.utf8.specs.Utf8.{utf8}
 use Rattle.segment.specs.declared.refusal.Refusal.{Refusal}
-use Rattle.read_open.specs.declared.header.RangeEnd.{RangeEnd}
-use Rattle.read_open.specs.declared.header.RangeEnd.TheVariants as range
-use Rattle.segment.specs.declared.checked.Checked.TheVariants.{Passed, Refused}
 use Rattle.read_open.specs.declared.directory.NameRange.{NameRange}
-use Rattle.read_open.specs.declared.directory.EntryStep.{EntryStep}
-use Rattle.read_open.specs.declared.directory.EntryStep.TheVariants as step
 use Rattle.segment.specs.Refusals.{term_bytes, postings, invalid_utf8, invalid_layout, empty_term, non_increasing_term}
 use Rattle.segment.specs.Refusals.{empty_term_posting_list}
-use Rattle.segment.specs.Results.{ok, refuse}
 use Rattle.segment.specs.Records.{field, between}
 use Rattle.segment.specs.Directory.{part, follows, read_list_range, read_entry}
-use Rattle.read_open.specs.Steps.{range_end, InNames, name_in, name_read, entry_means, WalkedEntry}
-use Rattle.segment.specs.Steps.{earlier, checked}
+use Rattle.read_open.specs.Steps.{range_end, InNames, name_in, name_before, name_read, entry_means, WalkedEntry}
+use Rattle.segment.specs.Steps.{checked}
 use Rattle.segment.proofs.Accepted.{passed_ok, refused_is}
 use Rattle.read_open.proofs.Sections.{part_to, part_is, end_is}
 
@@ -37,44 +32,44 @@ to_end l at = take_all (length l - at) (drop at l) (simp length-drop (omega arit
 
 -- the list, from the end r of its range
 module _ (bytes lists : List ℕ) {at n : ℕ} (is_at : at ≡ field 8 8 bytes) (is_n : n ≡ field 8 16 bytes)
-    {r : RangeEnd} (is_end : r ≡ range_end postings at n (length lists)) where
+    {r : Answer ℕ} (is_end : r ≡ range_end postings at n (length lists)) where
   list_part : part postings (field 8 8 bytes) (field 8 16 bytes) lists ≡ part_to at lists r
   list_part = rw (← is_at, ← is_n, is_end) (part_is postings at n lists)
 
-  pub list_lost : {x : Refusal} → r ≡ range.Refused x → Refused x ≡ checked (read_list_range bytes lists)
+  pub list_lost : {x : Refusal} → r ≡ Err x → Err x ≡ checked (read_list_range bytes lists)
   unfolding read_list_range
   list_lost q = rw (list_part, q)
 
-  module _ {e d : ℕ} (q : r ≡ range.At e) (is_d : d ≡ field 4 24 bytes) where
-    pub list_empty : d ≡ 0 → Refused (invalid_layout empty_term_posting_list) ≡ checked (read_list_range bytes lists)
+  module _ {e d : ℕ} (q : r ≡ Ok e) (is_d : d ≡ field 4 24 bytes) where
+    pub list_empty : d ≡ 0 → Err (invalid_layout empty_term_posting_list) ≡ checked (read_list_range bytes lists)
     unfolding read_list_range
     list_empty z = rw (list_part, q, ← is_d, z)
 
-    pub list_fine : (d ≡ 0 → ⊥) → Passed ≡ checked (read_list_range bytes lists)
+    pub list_fine : (d ≡ 0 → ⊥) → (Ok tt) ≡ checked (read_list_range bytes lists)
     unfolding read_list_range
     list_fine z = rw (list_part, q, ← is_d, lt-ltb 0 d (omega arith))
 
 -- the entry, from the end r of its name's range
 module _ (bytes names : List ℕ) {at n : ℕ} (is_at : at ≡ field 4 0 bytes) (is_n : n ≡ field 4 4 bytes)
-    {r : RangeEnd} (is_end : r ≡ range_end term_bytes at n (length names)) where
+    {r : Answer ℕ} (is_end : r ≡ range_end term_bytes at n (length names)) where
   name_part : part term_bytes (field 4 0 bytes) (field 4 4 bytes) names ≡ part_to at names r
   name_part = rw (← is_at, ← is_n, is_end) (part_is term_bytes at n names)
 
-  pub name_inside : {e : ℕ} → r ≡ range.At e → InNames (record { start = at; end = e }) names
+  pub name_inside : {e : ℕ} → r ≡ Ok e → InNames (record { start = at; end = e }) names
   name_inside q = let i = end_is term_bytes at n (length names) (sym is_end ∙ q) in record { in_order = omega arith; inside = i.1 }
 
   module _ (previous : Option (List ℕ)) (lists : List ℕ) where
-    pub name_lost : {x : Refusal} → r ≡ range.Refused x → refuse x ≡ name_read (read_entry previous bytes names lists)
+    pub name_lost : {x : Refusal} → r ≡ Err x → Err x ≡ name_read (read_entry previous bytes names lists)
     unfolding read_entry
     name_lost q = rw (name_part, q)
 
-    module _ {e : ℕ} (q : r ≡ range.At e) where
-      pub not_text : utf8 (between at e names) ≡ false → refuse invalid_utf8 ≡ name_read (read_entry previous bytes names lists)
+    module _ {e : ℕ} (q : r ≡ Ok e) where
+      pub not_text : utf8 (between at e names) ≡ false → Err invalid_utf8 ≡ name_read (read_entry previous bytes names lists)
       unfolding read_entry
       not_text f = rw (name_part, q, f)
 
       module _ (text : utf8 (between at e names) ≡ true) where
-        pub no_bytes : at ≡ e → refuse (invalid_layout empty_term) ≡ name_read (read_entry previous bytes names lists)
+        pub no_bytes : at ≡ e → Err (invalid_layout empty_term) ≡ name_read (read_entry previous bytes names lists)
         unfolding read_entry
         no_bytes f =
             let l = between_length at e names (name_inside q).inside in
@@ -88,36 +83,36 @@ module _ (bytes names : List ℕ) {at n : ℕ} (is_at : at ≡ field 4 0 bytes) 
               lt-ltb 0 (length (between at e names)) (omega arith)
 
           pub not_after : follows previous (between at e names) ≡ false
-              → refuse (invalid_layout non_increasing_term) ≡ name_read (read_entry previous bytes names lists)
+              → Err (invalid_layout non_increasing_term) ≡ name_read (read_entry previous bytes names lists)
           unfolding read_entry
           not_after f = rw (name_part, q, text, long, f)
 
           module _ (after : follows previous (between at e names) ≡ true) where
-            pub bad_list : {x : Refusal} → Refused x ≡ checked (read_list_range bytes lists)
-                → refuse x ≡ name_read (read_entry previous bytes names lists)
+            pub bad_list : {x : Refusal} → Err x ≡ checked (read_list_range bytes lists)
+                → Err x ≡ name_read (read_entry previous bytes names lists)
             unfolding read_entry
             bad_list f = rw (name_part, q, text, long, after, refused_is (read_list_range bytes lists) f)
 
-            pub all_fine : Passed ≡ checked (read_list_range bytes lists)
-                → ok (between at e names) ≡ name_read (read_entry previous bytes names lists)
+            pub all_fine : (Ok tt) ≡ checked (read_list_range bytes lists)
+                → Ok (between at e names) ≡ name_read (read_entry previous bytes names lists)
             unfolding read_entry
             all_fine f = rw (name_part, q, text, long, after, (passed_ok (read_list_range bytes lists) f).1)
 
 -- ---- what a step over an entry shows
 
-module _ {first : Bool} {previous : NameRange} {bytes names lists : List ℕ} where
-  pub refused_entry : {x : Refusal} → refuse x ≡ name_read (read_entry (earlier first (name_in names previous)) bytes names lists)
-      → WalkedEntry first previous bytes names lists (step.Refused x)
+module _ {previous : Option NameRange} {bytes names lists : List ℕ} where
+  pub refused_entry : {x : Refusal} → Err x ≡ name_read (read_entry (name_before names previous) bytes names lists)
+      → WalkedEntry previous bytes names lists (Err x)
   refused_entry e = record { reads = e; stays = tt }
 
-  module _ {r : EntryStep} (w : WalkedEntry first previous bytes names lists r) where
-    pub next_name : {n : NameRange} → r ≡ step.Next n
-        → ok (name_in names n) ≡ name_read (read_entry (earlier first (name_in names previous)) bytes names lists)
+  module _ {r : Answer NameRange} (w : WalkedEntry previous bytes names lists r) where
+    pub next_name : {n : NameRange} → r ≡ Ok n
+        → Ok (name_in names n) ≡ name_read (read_entry (name_before names previous) bytes names lists)
     next_name e = sym (ap (entry_means names) e) ∙ w.reads
 
-    pub next_inside : {n : NameRange} → r ≡ step.Next n → InNames n names
+    pub next_inside : {n : NameRange} → r ≡ Ok n → InNames n names
     next_inside e = rw e at w.stays
 
-    pub stopped : {x : Refusal} → r ≡ step.Refused x
-        → refuse x ≡ name_read (read_entry (earlier first (name_in names previous)) bytes names lists)
+    pub stopped : {x : Refusal} → r ≡ Err x
+        → Err x ≡ name_read (read_entry (name_before names previous) bytes names lists)
     stopped e = sym (ap (entry_means names) e) ∙ w.reads

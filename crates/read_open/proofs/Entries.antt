@@ -1,9 +1,10 @@
 -- A directory that was accepted: its entries by index, each good, with names that rise. And the section checked an entry at a time.
 -- Assumes nothing.
+use Rattle.segment.specs.declared.refusal.Section.{Section}
+use Rattle.std.specs.Prelude.{Err, None, Ok, Option, Some}
 use mathlib.Core.Path.{◌≡◌, refl, sym, ap, ap₂, ◌∙◌}
 use mathlib.Core.Bool.{true}
 use mathlib.Core.List.{List, [], ◌∷◌}
-use mathlib.Core.Option.{Option, none, some}
 use Prim.Native.Nat.{ℕ, zero, suc, ◌+◌, ◌*◌, ◌-◌, ◌≤◌, ◌<◌, ◌^◌}
 use native.Mathlib.Nat.{not-suc-le-zero, add-zero}
 use native.Mathlib.Omega.{arith}
@@ -14,10 +15,8 @@ use borrow.Author.Tests.{ltb-true, leb-true, eqb-true, eq-eqb, ne_eqb}
 use Rattle.utf8.specs.Utf8.{utf8}
 use Rattle.common.proofs.Loops.{left_suc, left_none}
 use Rattle.segment.specs.declared.refusal.Refusal.{Refusal}
-use Rattle.segment.specs.declared.checked.Checked.{Checked}
-use Rattle.segment.specs.declared.checked.Checked.TheVariants.{Passed, Refused}
 use Rattle.segment.specs.Refusals.{term_bytes, postings, invalid_layout, directory_length_mismatch}
-use Rattle.segment.specs.Results.{Result, ok, refuse}
+use Rattle.segment.specs.Results.{Answer}
 use Rattle.segment.specs.Records.{Entry, little_endian, field}
 use Rattle.segment.specs.Names.{precedes}
 use Rattle.segment.specs.Directory.{part, follows, read_list_range, read_entry, read_entries, directory}
@@ -44,7 +43,7 @@ pub record DirectoryRead (dir names lists : List ℕ) (count : ℕ) (es : List E
 
 -- ---- one entry
 
-part_ok : (section at n : ℕ) (whole : List ℕ) {l : List ℕ} → part section at n whole ≡ ok l
+part_ok : (section : Section) (at n : ℕ) (whole : List ℕ) {l : List ℕ} → part section at n whole ≡ Ok l
     → (at + n ≤ length whole) × (take n (drop at whole) ≡ l)
 unfolding part
 part_ok section at n whole e =
@@ -52,7 +51,7 @@ part_ok section at n whole e =
     let (inside, g) = check_gives (leb (at + n) (length whole)) _ _ f in
     (leb-true _ _ inside, ok_same g)
 
-list_ok : (bytes lists : List ℕ) {l : List ℕ} → read_list_range bytes lists ≡ ok l
+list_ok : (bytes lists : List ℕ) {l : List ℕ} → read_list_range bytes lists ≡ Ok l
     → (field 8 8 bytes + field 8 16 bytes ≤ length lists) × (take (field 8 16 bytes) (drop (field 8 8 bytes) lists) ≡ l)
     × (0 < field 4 24 bytes)
 unfolding read_list_range
@@ -69,7 +68,7 @@ record First (bytes names lists : List ℕ) (e : Entry) : Type 0 where
   list : field 8 8 bytes + field 8 16 bytes ≤ length lists
   whole : Whole e
 
-entry_ok : (previous : Option (List ℕ)) (bytes names lists : List ℕ) {e : Entry} → read_entry previous bytes names lists ≡ ok e
+entry_ok : (previous : Option (List ℕ)) (bytes names lists : List ℕ) {e : Entry} → read_entry previous bytes names lists ≡ Ok e
     → First bytes names lists e × (follows previous e.name ≡ true)
 unfolding read_entry
 entry_ok previous bytes names lists {e} h =
@@ -102,11 +101,11 @@ drop_next : (dir : List ℕ) (i : ℕ) → drop (i * 32) (drop 32 dir) ≡ drop 
 drop_next dir i = let e : 32 + i * 32 ≡ suc i * 32 = omega arith in drop-drop (i * 32) 32 dir ∙ ap (λ k. drop k dir) e
 
 after_both : (previous : Option (List ℕ)) (a b : List ℕ) → follows previous a ≡ true → precedes a b ≡ true → follows previous b ≡ true
-after_both none a b e f = refl
-after_both (some p) a b e f = precedes_transitive p a b e f
+after_both None a b e f = refl
+after_both (Some p) a b e f = precedes_transitive p a b e f
 
 module _ (previous : Option (List ℕ)) {dir names lists : List ℕ} {e : Entry} {n : ℕ} {es : List Entry} (first : First dir names lists e)
-    (follow : follows previous e.name ≡ true) (rest : EntriesRead (some e.name) (drop 32 dir) names lists n es) where
+    (follow : follows previous e.name ≡ true) (rest : EntriesRead (Some e.name) (drop 32 dir) names lists n es) where
   at_one : (i : ℕ) → i < suc n → First (drop (i * 32) dir) names lists (get_or (e ∷ es) i no_entry)
   at_one zero h = first
   at_one (suc i) h = rw (← drop_next dir i) (rest.at i (omega arith))
@@ -132,14 +131,14 @@ none_read previous dir names lists = record {
 }
 
 entries_ok : (n : ℕ) (previous : Option (List ℕ)) (dir names lists : List ℕ) (es : List Entry)
-    → read_entries n previous dir names lists ≡ ok es → EntriesRead previous dir names lists n es
+    → read_entries n previous dir names lists ≡ Ok es → EntriesRead previous dir names lists n es
 unfolding read_entries
 entries_ok zero previous dir names lists es h = rw (← ok_same h) (none_read previous dir names lists)
 entries_ok (suc n) previous dir names lists es h =
     let (e, one, h₁) = bind_gives (read_entry previous dir names lists) _ h in
-    let (more, rest, h₂) = bind_gives (read_entries n (some e.name) (drop 32 dir) names lists) _ h₁ in
+    let (more, rest, h₂) = bind_gives (read_entries n (Some e.name) (drop 32 dir) names lists) _ h₁ in
     let (first, after) = entry_ok previous dir names lists one in
-    rw (← ok_same h₂) (one_more previous first after (entries_ok n (some e.name) (drop 32 dir) names lists more rest))
+    rw (← ok_same h₂) (one_more previous first after (entries_ok n (Some e.name) (drop 32 dir) names lists more rest))
 
 field_at : (n at c : ℕ) (dir : List ℕ) → field n c (drop at dir) ≡ field n (at + c) dir
 field_at n at c dir = ap (λ l. little_endian (take n l)) (drop-drop c at dir)
@@ -148,7 +147,7 @@ first_at : (dir names lists : List ℕ) (i : ℕ) → entry_at (drop (i * 32) di
 first_at dir names lists i = simp (field_at, add-zero)
 
 module _ {dir names lists : List ℕ} {count : ℕ} {es : List Entry} (long : length dir ≡ 32 * count)
-    (r : EntriesRead none dir names lists count es) where
+    (r : EntriesRead None dir names lists count es) where
   entry_here : (i : ℕ) → i < count → get_or es i no_entry ≡ entry_at dir names lists i
   entry_here i h = (r.at i h).entry ∙ first_at dir names lists i
 
@@ -170,50 +169,50 @@ module _ {dir names lists : List ℕ} {count : ℕ} {es : List Entry} (long : le
     whole = λ i h. (r.at i h).whole;
   }
 
-pub directory_ok : (count : ℕ) (dir names lists : List ℕ) {es : List Entry} → directory count dir names lists ≡ ok es
+pub directory_ok : (count : ℕ) (dir names lists : List ℕ) {es : List Entry} → directory count dir names lists ≡ Ok es
     → DirectoryRead dir names lists count es
 unfolding directory
 directory_ok count dir names lists {es} h =
     let (long, h₁) = check_gives (eqb (length dir) (32 * count)) _ _ h in
-    directory_read (eqb-true _ _ long) (entries_ok count none dir names lists es h₁)
+    directory_read (eqb-true _ _ long) (entries_ok count None dir names lists es h₁)
 
 -- ---- the section checked: its length, then an entry at a time, from entry i on
 
 module _ (count : ℕ) (dir names lists : List ℕ) where
   pub wrong_length : (length dir ≡ 32 * count → ⊥)
-      → Refused (invalid_layout directory_length_mismatch) ≡ checked (directory count dir names lists)
+      → Err (invalid_layout directory_length_mismatch) ≡ checked (directory count dir names lists)
   unfolding directory
   wrong_length n = rw (ne_eqb (length dir) (32 * count) n)
 
-  pub right_length : length dir ≡ 32 * count → checked (read_entries count none dir names lists) ≡ checked (directory count dir names lists)
+  pub right_length : length dir ≡ 32 * count → checked (read_entries count None dir names lists) ≡ checked (directory count dir names lists)
   unfolding directory
   right_length e = rw (eq-eqb (length dir) (32 * count) e)
 
-named_ok : (r : Result Entry) {name : List ℕ} → ok name ≡ name_read r → (e : Entry) × (r ≡ ok e) × (name ≡ e.name)
-named_ok (ok e) h = (e, refl, ok_same h)
-named_ok (refuse x) h = refuse_ok (sym h)
+named_ok : (r : Answer Entry) {name : List ℕ} → Ok name ≡ name_read r → (e : Entry) × (r ≡ Ok e) × (name ≡ e.name)
+named_ok (Ok e) h = (e, refl, ok_same h)
+named_ok (Err x) h = refuse_ok (sym h)
 
-named_refused : (r : Result Entry) {x : Refusal} → refuse x ≡ name_read r → r ≡ refuse x
-named_refused (ok e) h = refuse_ok h
-named_refused (refuse y) h = cc
+named_refused : (r : Answer Entry) {x : Refusal} → Err x ≡ name_read r → r ≡ Err x
+named_refused (Ok e) h = refuse_ok h
+named_refused (Err y) h = cc
 
-module _ (dir names lists : List ℕ) (terms i : ℕ) (previous : Option (List ℕ)) {result : Checked}
+module _ (dir names lists : List ℕ) (terms i : ℕ) (previous : Option (List ℕ)) {result : (Answer (Unit {0}))}
     (inv : checked (read_entries (terms - i) previous (drop (i * 32) dir) names lists) ≡ result) where
-  pub entries_next : {name : List ℕ} → i < terms → ok name ≡ name_read (read_entry previous (drop (i * 32) dir) names lists)
-      → checked (read_entries (terms - (i + 1)) (some name) (drop ((i + 1) * 32) dir) names lists) ≡ result
+  pub entries_next : {name : List ℕ} → i < terms → Ok name ≡ name_read (read_entry previous (drop (i * 32) dir) names lists)
+      → checked (read_entries (terms - (i + 1)) (Some name) (drop ((i + 1) * 32) dir) names lists) ≡ result
   unfolding read_entries
   entries_next h e =
       let (a, q, n) = named_ok (read_entry previous (drop (i * 32) dir) names lists) e in
       let m : (i + 1) * 32 ≡ i * 32 + 32 = omega arith in
       rw (n, m, ← drop-drop 32 (i * 32) dir)
-      (sym (same_check (read_entries (terms - (i + 1)) (some a.name) (drop 32 (drop (i * 32) dir)) names lists) (λ more. a ∷ more))
+      (sym (same_check (read_entries (terms - (i + 1)) (Some a.name) (drop 32 (drop (i * 32) dir)) names lists) (λ more. a ∷ more))
       ∙ (rw (left_suc terms i h, q) at inv))
 
-  pub entries_stop : {x : Refusal} → i < terms → refuse x ≡ name_read (read_entry previous (drop (i * 32) dir) names lists)
-      → Refused x ≡ result
+  pub entries_stop : {x : Refusal} → i < terms → Err x ≡ name_read (read_entry previous (drop (i * 32) dir) names lists)
+      → Err x ≡ result
   unfolding read_entries
   entries_stop h e = rw (left_suc terms i h, named_refused (read_entry previous (drop (i * 32) dir) names lists) e) at inv
 
-  pub entries_end : terms ≤ i → Passed ≡ result
+  pub entries_end : terms ≤ i → (Ok tt) ≡ result
   unfolding read_entries
   entries_end h = rw (left_none terms i h) at inv

@@ -1,18 +1,17 @@
 -- A name looked up: the steps of the binary search, and the entry at the index that it found.
 -- Assumes nothing.
+use Rattle.std.specs.Prelude.{None, Some}
+use Rattle.std.specs.declared.cmp.Ordering.TheVariants.{Greater, Less}
 use mathlib.Core.Path.{◌≡◌, refl, sym, ap, ◌∙◌}
 use mathlib.Core.Bool.{true}
 use mathlib.Core.List.{List, [], ◌∷◌}
 use mathlib.Core.Logic.{⊎_elim}
-use mathlib.Core.Option.{none, some}
 use Prim.Native.Nat.{ℕ, zero, suc, ◌+◌, ◌*◌, ◌-◌, ◌≤◌, ◌<◌}
 use native.Mathlib.Nat.{not-suc-le-zero}
 use native.Mathlib.Omega.{arith}
 use lib.ListN.{length, get_or}
 use Rattle.common.proofs.Loops.{true_false, lt_or_ge}
-use Rattle.segment.specs.declared.names.Order.TheVariants.{Less, Greater}
 use Rattle.read_open.specs.declared.header.Layout.{Layout}
-use Rattle.read_open.specs.declared.directory.TermEntry.TheVariants as found
 use Rattle.segment.specs.Records.{Entry, Segment, field, between}
 use Rattle.segment.specs.Names.{precedes}
 use Rattle.segment.specs.Steps.{order}
@@ -58,7 +57,7 @@ module _ (dir names name : List ℕ) (count : ℕ) where
         (lt_or_ge m k)
 
   pub nowhere : (low high : ℕ) → high ≤ low → AllBefore dir names name low → AllAfter dir names name count high
-      → Located dir names count name found.Absent
+      → Located dir names count name None
   nowhere low high h before after i k =
       ⊎_elim
       (λ (l : i < low). apart_names _ _ (before i l))
@@ -68,7 +67,7 @@ module _ (dir names name : List ℕ) (count : ℕ) where
 -- ---- the entry of a name
 
 entry_of_at : (es : List Entry) (name : List ℕ) (i : ℕ) → i < length es → (get_or es i no_entry).name ≡ name
-    → ((k : ℕ) → k < i → (get_or es k no_entry).name ≡ name → ⊥) → entry_of es name ≡ some (get_or es i no_entry)
+    → ((k : ℕ) → k < i → (get_or es k no_entry).name ≡ name → ⊥) → entry_of es name ≡ Some (get_or es i no_entry)
 unfolding entry_of
 entry_of_at [] name i h e f = absurd (not-suc-le-zero h)
 entry_of_at (x ∷ es) name zero h e f = rw ((same_is x.name name).1 e)
@@ -76,7 +75,7 @@ entry_of_at (x ∷ es) name (suc i) h e f =
     rw (apart x.name name (f 0 (omega arith))) (entry_of_at es name i (omega arith) e (λ k l. f (suc k) (omega arith)))
 
 entry_of_absent : (es : List Entry) (name : List ℕ) → ((k : ℕ) → k < length es → (get_or es k no_entry).name ≡ name → ⊥)
-    → entry_of es name ≡ none
+    → entry_of es name ≡ None
 unfolding entry_of
 entry_of_absent [] name f = refl
 entry_of_absent (x ∷ es) name f =
@@ -87,14 +86,14 @@ module _ {bytes : List ℕ} {l : Layout} {segment : Segment} (is : IsOpen bytes 
   name_here : (i : ℕ) → i < l.terms → (get_or segment.entries i no_entry).name ≡ name_at (cut bytes l).directory (cut bytes l).names i
   name_here i h = ap (λ (e : Entry). e.name) (is.entry i h)
 
-  pub located_at : (i : ℕ) → Located (cut bytes l).directory (cut bytes l).names l.terms name (found.At i)
-      → entry_of segment.entries name ≡ some (get_or segment.entries i no_entry)
+  pub located_at : (i : ℕ) → Located (cut bytes l).directory (cut bytes l).names l.terms name (Some i)
+      → entry_of segment.entries name ≡ Some (get_or segment.entries i no_entry)
   located_at i (h, e) =
       entry_of_at segment.entries name i (omega (arith, is.term_count)) (name_here i h ∙ e)
       (λ k l q. apart_names _ _ (is.sorted.rising k i l h) (sym (name_here k (omega arith)) ∙ q ∙ sym e))
 
-  pub located_nowhere : Located (cut bytes l).directory (cut bytes l).names l.terms name found.Absent
-      → entry_of segment.entries name ≡ none
+  pub located_nowhere : Located (cut bytes l).directory (cut bytes l).names l.terms name None
+      → entry_of segment.entries name ≡ None
   located_nowhere f =
       entry_of_absent segment.entries name
       (λ k h q. let i : k < l.terms = omega (arith, is.term_count) in f k i (sym (name_here k i) ∙ q))

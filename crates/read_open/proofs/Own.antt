@@ -1,5 +1,8 @@
 -- The layout that the header's numbers make is the segment's own, where the bytes open.
 -- Assumes nothing.
+use Rattle.segment.specs.declared.refusal.Section.{Section}
+use Rattle.std.specs.Prelude.{Err, Ok}
+use Rattle.segment.specs.Results.{Answer}
 use mathlib.Core.Path.{◌≡◌, refl, sym, ap, ◌∙◌}
 use mathlib.Core.List.{List}
 use Prim.Native.Nat.{ℕ, ◌+◌}
@@ -7,16 +10,12 @@ use lib.Dec.{leb, eqb}
 use lib.ListN.{length, take}
 use borrow.Author.Tests.{leb-true, eqb-true}
 use Rattle.segment.specs.Refusals.{term_directory, term_bytes, document_metadata, postings}
-use Rattle.segment.specs.Results.{ok}
 use Rattle.segment.specs.Records.{Segment, field, header_size}
 use Rattle.segment.specs.Names.{same}
 use Rattle.segment.specs.Directory.{part}
 use Rattle.segment.specs.Opening.{Sections, magic, ranges, sections, open_segment}
 use Rattle.segment.proofs.Binds.{refuse_ok, ok_same, bind_gives}
 use Rattle.segment.proofs.Accepted.{check_gives}
-use Rattle.read_open.specs.declared.header.Opening.TheVariants as opening
-use Rattle.read_open.specs.declared.header.RangeEnd.{RangeEnd}
-use Rattle.read_open.specs.declared.header.RangeEnd.TheVariants as range
 use Rattle.read_open.specs.Layouts.{layout_in}
 use Rattle.read_open.specs.Opened.{IsOpen}
 use Rattle.read_open.specs.Steps.{range_end, cut, Reads}
@@ -25,15 +24,15 @@ use Rattle.read_open.proofs.Openings.{open_parts, is_open}
 
 module _ (bytes : List ℕ) where
   -- a part that was read has its end
-  ended : (section at n : ℕ) {p : List ℕ} → part section at n bytes ≡ ok p → range_end section at n (length bytes) ≡ range.At (at + n)
+  ended : (section : Section) (at n : ℕ) {p : List ℕ} → part section at n bytes ≡ Ok p → range_end section at n (length bytes) ≡ Ok (at + n)
   ended section at n {p} q = by_end (range_end section at n (length bytes)) refl (sym (part_is section at n bytes) ∙ q)
     where
-      by_end : (r : RangeEnd) → range_end section at n (length bytes) ≡ r → part_to at bytes r ≡ ok p
-          → range_end section at n (length bytes) ≡ range.At (at + n)
-      by_end (range.At e) f g = f ∙ ap range.At (end_is section at n (length bytes) f).0
-      by_end (range.Refused x) f g = refuse_ok g
+      by_end : (r : Answer ℕ) → range_end section at n (length bytes) ≡ r → part_to at bytes r ≡ Ok p
+          → range_end section at n (length bytes) ≡ Ok (at + n)
+      by_end (Ok e) f g = f ∙ ap Ok (end_is section at n (length bytes) f).0
+      by_end (Err x) f g = refuse_ok g
 
-  own_ranges : {parts : Sections} → ranges bytes ≡ ok parts → Reads bytes (ranges bytes) (opening.Layout (layout_in bytes))
+  own_ranges : {parts : Sections} → ranges bytes ≡ Ok parts → Reads bytes (ranges bytes) (Ok (layout_in bytes))
   unfolding ranges
   own_ranges e =
       let a = header_size + field 8 24 bytes in
@@ -48,7 +47,7 @@ module _ (bytes : List ℕ) where
       (ended document_metadata b (field 8 40 bytes) dc) (ended postings c (field 8 48 bytes) dd)
       (eqb-true (c + field 8 48 bytes) (length bytes) same) refl refl
 
-  own_sections : {parts : Sections} → sections bytes ≡ ok parts → Reads bytes (sections bytes) (opening.Layout (layout_in bytes))
+  own_sections : {parts : Sections} → sections bytes ≡ Ok parts → Reads bytes (sections bytes) (Ok (layout_in bytes))
   unfolding sections
   own_sections e =
       let (long, f) = check_gives (leb header_size (length bytes)) _ _ e in
@@ -58,7 +57,7 @@ module _ (bytes : List ℕ) where
       on_to_ranges bytes (leb-true header_size (length bytes) long) marked refl (eqb-true (field 4 8 bytes) 2 version) refl
       (eqb-true (field 4 12 bytes) 0 flags) (own_ranges k)
 
-  pub own_layout : {s : Segment} → open_segment bytes ≡ ok s → IsOpen bytes (layout_in bytes) s
+  pub own_layout : {s : Segment} → open_segment bytes ≡ Ok s → IsOpen bytes (layout_in bytes) s
   own_layout e =
       let (parts, read, _, c) = open_parts bytes e in
       let r = own_sections read in

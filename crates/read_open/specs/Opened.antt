@@ -1,10 +1,7 @@
 -- What callers may rely on after opening; and what a lookup demands of a layout that nobody has opened.
-use Rattle.std.specs.Prelude.{ℕ, ◌+◌, ◌*◌, ◌≤◌, ◌<◌, ◌≡◌, List, [], length, get_or}
-use Rattle.std.proofs.Math.Option.{none}
+use Rattle.std.specs.Prelude.{Err, None, Ok, ℕ, ◌+◌, ◌*◌, ◌≤◌, ◌<◌, ◌≡◌, List, [], length, get_or}
+use Rattle.segment.specs.Results.{Answer}
 use Rattle.read_open.specs.declared.header.Layout.{Layout}
-use Rattle.read_open.specs.declared.header.Opening.{Opening}
-use Rattle.read_open.specs.declared.header.Opening.TheVariants as opening
-use Rattle.segment.specs.Results.{ok, refuse}
 use Rattle.segment.specs.Records.{Entry, Segment, field, header_size, entry_size}
 use Rattle.segment.specs.Opening.{open_segment}
 use Rattle.read_open.specs.Layouts.{layout_in}
@@ -18,7 +15,7 @@ no_entry = record { name = []; list = []; df = 0; checksum = 0 }
 pub record IsOpen (bytes : List ℕ) (l : Layout) (s : Segment) : Type 0 where
   pub ordered : SectionsFollow bytes l
   pub numbers : l ≡ layout_in bytes
-  pub documents : held_documents l.documents none (cut bytes l).metadata ≡ s.documents
+  pub documents : held_documents l.documents None (cut bytes l).metadata ≡ s.documents
   pub document_count : length s.documents ≡ l.documents
   pub term_count : length s.entries ≡ l.terms
   pub sorted : Sorted (cut bytes l).directory (cut bytes l).names l.terms
@@ -32,9 +29,9 @@ pub record IsOpen (bytes : List ℕ) (l : Layout) (s : Segment) : Type 0 where
 abbrev pub OpenedAs : List ℕ → Layout → Type 0
 OpenedAs bytes l = (s : Segment) × IsOpen bytes l s
 
-abbrev pub Opens : List ℕ → Opening → Type 0
-Opens bytes (opening.Layout l) = (s : Segment) × (open_segment bytes ≡ ok s) × IsOpen bytes l s
-Opens bytes (opening.Refused x) = open_segment bytes ≡ refuse x
+abbrev pub Opens : List ℕ → Answer Layout → Type 0
+Opens bytes (Ok l) = (s : Segment) × (open_segment bytes ≡ Ok s) × IsOpen bytes l s
+Opens bytes (Err x) = open_segment bytes ≡ Err x
 
 -- a layout fits some bytes, whether or not they open: its sections follow one another and lie in the bytes, and the directory has room
 -- for the entries

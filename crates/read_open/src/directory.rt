@@ -3,17 +3,14 @@ ghost use Rattle.std.specs.Prelude.{◌≡◌, false, ◌↔◌, ◌+◌, ◌*�
 ghost use Rattle.segment.specs.Records.{entry_size};
 ghost use Rattle.segment.specs.Directory.{directory, read_list_range};
 ghost use Rattle.segment.specs.Steps.{order, checked};
-ghost use Rattle.read_open.specs.Steps.{InNames, follows_name, WalkedEntry, name_at, EntryInside, LocatedAny};
+ghost use Rattle.read_open.specs.Steps.{LiesBefore, follows_name, WalkedEntry, name_at, EntryInside, LocatedAny};
 
-use crate::header::{RangeEnd, checked_range};
+use crate::header::checked_range;
 use common::widths::long;
-use segment::checked::Checked;
 use segment::fixed::{ENTRY_SIZE, read_u32_at, read_usize_at};
-use segment::names::{Order, compare, precedes};
-use segment::refusal::{
-    DIRECTORY_LENGTH_MISMATCH, EMPTY_TERM, EMPTY_TERM_POSTING_LIST, NON_INCREASING_TERM, POSTINGS,
-    Refusal, TERM_BYTES, invalid_layout, invalid_utf8,
-};
+use segment::names::{compare, precedes};
+use segment::refusal::{Reason, Refusal, Section};
+use std::cmp::Ordering;
 use utf8::characters::is_utf8;
 
 // Where a name lies in the section of term bytes.
@@ -23,105 +20,77 @@ pub struct NameRange {
     pub end: usize,
 }
 
-#[derive(Clone, Copy)]
-pub enum EntryStep {
-    Next(NameRange),
-    Refused(Refusal),
-}
-
 // Whether a name follows the one before it in the section; the first follows nothing.
-fn follows(names: &[u8], first: bool, previous: NameRange, name: &[u8]) -> bool
-    requires { InNames previous names.now }
-    ensures { result ≡ follows_name names.now first previous name.now }
+fn follows(names: &[u8], previous: Option<NameRange>, name: &[u8]) -> bool
+    requires { LiesBefore previous names.now }
+    ensures { result ≡ follows_name names.now previous name.now }
 {
-    if first {
-        return true;
+    match previous {
+        Some(before) => precedes(&names[before.start..before.end], name),
+        None => true,
     }
-    let start = previous.start;
-    let end = previous.end;
-    precedes(&names[start..end], name)
 }
 
 // The list's range lies in its section, and the entry has postings.
-fn check_list(entry: &[u8], lists: &[u8]) -> Checked
+fn check_list(entry: &[u8], lists: &[u8]) -> Result<(), Refusal>
     requires { entry_size ≤ length entry.now }
     ensures { result ≡ checked (read_list_range entry.now lists.now) }
 {
-    match checked_range(
-        read_usize_at(entry, 8),
-        read_usize_at(entry, 16),
-        lists.len(),
-        POSTINGS,
-    ) {
-        RangeEnd::At(_) => {
-            if read_u32_at(entry, 24) == 0 {
-                return Checked::Refused(invalid_layout(EMPTY_TERM_POSTING_LIST));
-            }
-            Checked::Passed
-        }
-        RangeEnd::Refused(x) => Checked::Refused(x),
+    let from = read_usize_at(entry, 8);
+    let size = read_usize_at(entry, 16);
+    checked_range(from, size, lists.len(), Section::Postings)?;
+    if read_u32_at(entry, 24) == 0 {
+        return Err(Refusal::InvalidLayout(Reason::EmptyTermPostingList));
     }
+    Ok(())
 }
 
-// One entry: term range, UTF-8, empty, order, postings range, df 0.
+// One entry: term range, UTF-8, empty, order, postings range, df 0. Answers where its name lies.
 fn check_entry(
     entry: &[u8],
     names: &[u8],
     lists: &[u8],
-    first: bool,
-    previous: NameRange,
-) -> EntryStep
-    requires { (entry_size ≤ length entry.now) × InNames previous names.now }
-    ensures { WalkedEntry first previous entry.now names.now lists.now result }
+    previous: Option<NameRange>,
+) -> Result<NameRange, Refusal>
+    requires { (entry_size ≤ length entry.now) × LiesBefore previous names.now }
+    ensures { WalkedEntry previous entry.now names.now lists.now result }
 {
     let start = long(read_u32_at(entry, 0));
-    let end = match checked_range(start, long(read_u32_at(entry, 4)), names.len(), TERM_BYTES) {
-        RangeEnd::At(end) => end,
-        RangeEnd::Refused(x) => {
-            return EntryStep::Refused(x);
-        }
-    };
-    if !is_utf8(&names[start..end]) {
-        return EntryStep::Refused(invalid_utf8());
+    let size = long(read_u32_at(entry, 4));
+    let end = checked_range(start, size, names.len(), Section::TermBytes)?;
+    let name = &names[start..end];
+    if !is_utf8(name) {
+        return Err(Refusal::InvalidUtf8);
     }
     if start == end {
-        return EntryStep::Refused(invalid_layout(EMPTY_TERM));
+        return Err(Refusal::InvalidLayout(Reason::EmptyTerm));
     }
-    if !follows(names, first, previous, &names[start..end]) {
-        return EntryStep::Refused(invalid_layout(NON_INCREASING_TERM));
+    if !follows(names, previous, name) {
+        return Err(Refusal::InvalidLayout(Reason::NonIncreasingTerm));
     }
-    match check_list(entry, lists) {
-        Checked::Passed => EntryStep::Next(NameRange {
-            start: start,
-            end: end,
-        }),
-        Checked::Refused(x) => EntryStep::Refused(x),
-    }
+    check_list(entry, lists)?;
+    Ok(NameRange { start, end })
 }
 
 // The whole section checked: its length, then each entry.
-pub fn decode_term_directory(dir: &[u8], names: &[u8], lists: &[u8], count: u32) -> Checked
+pub fn decode_term_directory(
+    dir: &[u8],
+    names: &[u8],
+    lists: &[u8],
+    count: u32,
+) -> Result<(), Refusal>
     ensures { result ≡ checked (directory count dir.now names.now lists.now) }
 {
     let terms = long(count);
     if dir.len() != terms * ENTRY_SIZE {
-        return Checked::Refused(invalid_layout(DIRECTORY_LENGTH_MISMATCH));
+        return Err(Refusal::InvalidLayout(Reason::DirectoryLengthMismatch));
     }
-    let mut previous = NameRange { start: 0, end: 0 };
-    let mut i: usize = 0;
-    while i < terms {
-        let at = i * ENTRY_SIZE;
-        match check_entry(&dir[at..], names, lists, i == 0, previous) {
-            EntryStep::Next(name) => {
-                previous = name;
-                i += 1;
-            }
-            EntryStep::Refused(x) => {
-                return Checked::Refused(x);
-            }
-        }
+    let mut previous = None;
+    for i in 0..terms {
+        let name = check_entry(&dir[i * ENTRY_SIZE..], names, lists, previous)?;
+        previous = Some(name);
     }
-    Checked::Passed
+    Ok(())
 }
 
 // Whether the name of entry `i` does not lie in the term bytes.
@@ -139,7 +108,7 @@ fn entry_outside(dir: &[u8], names: &[u8], i: usize) -> bool
 }
 
 // Compares the name of entry `i` with a name.
-fn compare_entry(dir: &[u8], names: &[u8], i: usize, name: &[u8]) -> Order
+fn compare_entry(dir: &[u8], names: &[u8], i: usize, name: &[u8]) -> Ordering
     requires { EntryInside dir.now names.now i }
     ensures { result ≡ order (name_at dir.now names.now i) name.now }
 {
@@ -149,37 +118,31 @@ fn compare_entry(dir: &[u8], names: &[u8], i: usize, name: &[u8]) -> Order
     compare(&names[start..end], name)
 }
 
-// The index of the entry with a name.
-#[derive(Clone, Copy)]
-pub enum TermEntry {
-    At(usize),
-    Absent,
-}
-
 // Binary search for the entry with a name. In a directory that opening has checked the names lie inside and rise; in any other the search
 // stays inside it, and ends at a name that does not.
-pub fn term_entry(dir: &[u8], names: &[u8], count: u32, name: &[u8]) -> TermEntry
+pub fn term_entry(dir: &[u8], names: &[u8], count: u32, name: &[u8]) -> Option<usize>
     requires { count * entry_size ≤ length dir.now }
     ensures { LocatedAny dir.now names.now count name.now result }
 {
+    // The library's search wants a slice of entries, and these are bytes.
     let mut low: usize = 0;
     let mut high = long(count);
     while low < high {
         let middle = low + (high - low) / 2;
         if entry_outside(dir, names, middle) {
-            return TermEntry::Absent;
+            return None;
         }
         match compare_entry(dir, names, middle, name) {
-            Order::Less => {
+            Ordering::Less => {
                 low = middle + 1;
             }
-            Order::Equal => {
-                return TermEntry::At(middle);
+            Ordering::Equal => {
+                return Some(middle);
             }
-            Order::Greater => {
+            Ordering::Greater => {
                 high = middle;
             }
         }
     }
-    TermEntry::Absent
+    None
 }

@@ -1,9 +1,9 @@
 -- The positions of one document in a list that was decoded, from a cursor that was sought to it.
 -- Assumes nothing.
+use Rattle.std.specs.Prelude.{None}
 use mathlib.Core.Path.{◌≡◌, refl, sym, ap, ◌∙◌}
 use mathlib.Core.Bool.{Bool, true, false, cond}
 use mathlib.Core.List.{List, [], ◌∷◌, map}
-use mathlib.Core.Option.{none}
 use mathlib.Core.Logic.{⊎_elim}
 use Prim.Native.Nat.{ℕ, zero, suc, ◌≤◌, ◌<◌}
 use native.Mathlib.Omega.{arith}
@@ -52,7 +52,7 @@ counts_sought id (s ∷ ss) e = go (ltb s.doc id) (counts_sought id ss (ap rest_
 -- the posting at a cursor
 module _ (s : List ℕ) (at count doc : ℕ) where
   at_found : (left : ℕ) → 0 < left
-      → positions_of (map posting_of (postings_at left at count doc s)) doc ≡ held_positions count none (drop at s)
+      → positions_of (map posting_of (postings_at left at count doc s)) doc ≡ held_positions count None (drop at s)
   unfolding postings_at positions_of
   at_found zero h = absurd (omega arith)
   at_found (suc n) h = rw (eq-eqb doc doc refl)
@@ -63,7 +63,7 @@ module _ (s : List ℕ) (at count doc : ℕ) where
   at_other (suc n) id h =
       above_none id doc (postings_at (suc n) at count doc s) (from_rise_postings s (suc n) at count doc) (h (omega arith))
 
-  at_count : (left : ℕ) → 0 < left → Counts (postings_at left at count doc s) → count ≡ length (held_positions count none (drop at s))
+  at_count : (left : ℕ) → 0 < left → Counts (postings_at left at count doc s) → count ≡ length (held_positions count None (drop at s))
   unfolding postings_at
   at_count zero h e = absurd (omega arith)
   at_count (suc n) h e = cc
@@ -90,8 +90,8 @@ module _ (bytes : List ℕ) (id : ℕ) {ss : List PostingAt} {ps : List Posting}
       ∙ at_other bytes here.at here.count here.doc.0 here.remaining id (λ k. omega (arith, sought.reached k, h k))
 
   module _ (h : 0 < here.remaining) where
-    pub sought_these : here.doc.0 ≡ id → positions_of ps id ≡ held_positions here.count none (drop here.at bytes)
+    pub sought_these : here.doc.0 ≡ id → positions_of ps id ≡ held_positions here.count None (drop here.at bytes)
     sought_these e = here_says ∙ rw (← e) (at_found bytes here.at here.count here.doc.0 here.remaining h)
 
-    pub sought_many : here.count ≡ length (held_positions here.count none (drop here.at bytes))
+    pub sought_many : here.count ≡ length (held_positions here.count None (drop here.at bytes))
     sought_many = at_count bytes here.at here.count here.doc.0 here.remaining h counts_here

@@ -1,8 +1,8 @@
 -- A cursor in a loop over the positions of a posting, and a posting's positions stored while a loop goes over the postings.
 -- Assumes nothing.
+use Rattle.std.specs.Prelude.{None}
 use mathlib.Core.Path.{◌≡◌, refl, sym, ap, ◌∙◌}
 use mathlib.Core.List.{List, [], ◌∷◌, ◌++◌, map}
-use mathlib.Core.Option.{none}
 use Prim.Native.Nat.{ℕ, zero, suc, ◌+◌, ◌≤◌, ◌<◌}
 use native.Mathlib.Omega.{arith}
 use lib.ListN.{length, drop}
@@ -20,7 +20,7 @@ module _ (s : List ℕ) where
   -- a posting's positions stored, in front of those of the postings after it
   module _ (left at count doc : ℕ) {all entry out part : List ℕ} {from next : ℕ}
       (t : ToStore all from entry (all_positions (postings_at left at count doc s)) next out)
-      (h : 0 < left) (is : part ≡ held_positions count none (drop at s)) where
+      (h : 0 < left) (is : part ≡ held_positions count None (drop at s)) where
     part_of : {more : List PostingAt} → more ≡ rest_of (postings_at left at count doc s)
         → all_positions (postings_at left at count doc s) ≡ part ++ all_positions more
     part_of {more} e = ap all_positions (posting_turn s left at count doc h e) ∙ ap (λ l. l ++ all_positions more) (sym is)

@@ -1,8 +1,8 @@
 -- A term found by its name and its list decoded: the entry at an index of the directory, and the list's checksum.
 -- Assumes nothing.
+use Rattle.std.specs.Prelude.{Err, None, Ok, Some}
 use mathlib.Core.Path.{◌≡◌, refl, ap, ◌∙◌}
 use mathlib.Core.List.{List}
-use mathlib.Core.Option.{some}
 use Prim.Native.Nat.{ℕ, ◌+◌, ◌*◌, ◌-◌, ◌≤◌, ◌<◌}
 use native.Mathlib.Omega.{arith}
 use lib.ListN.{length, get_or, length-take, length-drop}
@@ -10,12 +10,9 @@ use lib.Seq.{drop-drop}
 use borrow.Author.Tests.{eq-eqb, ne_eqb}
 use Rattle.crc32.specs.Crc32.{crc32_of}
 use Rattle.read_open.specs.declared.header.Layout.{Layout}
-use Rattle.read_open.specs.declared.directory.TermEntry.TheVariants as place
-use Rattle.read_lists.specs.declared.lists.Tally.{Tally}
-use Rattle.read_lists.specs.declared.lists.Tally.TheVariants as tally
 use Rattle.segment.specs.declared.refusal.Refusal.{Refusal}
 use Rattle.segment.specs.Refusals.{checksum_mismatch, term_postings}
-use Rattle.segment.specs.Results.{Result, ok, refuse}
+use Rattle.segment.specs.Results.{Answer}
 use Rattle.segment.specs.Records.{Document, Posting, Entry, Segment, field}
 use Rattle.segment.specs.Postings.{all_postings, decode}
 use Rattle.read_open.specs.Steps.{cut, name_at, Located, LocatedAny}
@@ -25,7 +22,6 @@ use Rattle.read_open.proofs.Checks.{to_end}
 use Rattle.read_open.proofs.Fitting.{own_fits}
 use Rattle.read_open.proofs.Lookup.{located_at, located_nowhere}
 use Rattle.read_terms.specs.declared.find.TermList.{TermList}
-use Rattle.read_terms.specs.declared.find.TermFound.TheVariants as found
 use Rattle.read_terms.specs.Steps.{entry_named, list_entry, ListLies, EntryLies, EntryList, TermIsFound}
 
 -- where entry i's list lies in the lists
@@ -78,31 +74,31 @@ module _ {bytes : List ℕ} {l : Layout} {i : ℕ} (e : EntryLies bytes l i) whe
 
 -- an entry that was located by its name
 pub found_list : {bytes : List ℕ} {l : Layout} {name : List ℕ} {i : ℕ} {t : TermList}
-    → Located (cut bytes l).directory (cut bytes l).names l.terms name (place.At i) → EntryList bytes l i t
-    → TermIsFound bytes l name (found.List t)
+    → Located (cut bytes l).directory (cut bytes l).names l.terms name (Some i) → EntryList bytes l i t
+    → TermIsFound bytes l name (Some t)
 found_list {name = name} {i = i} at e = (
   e.inside,
   rw e.place at.1,
-  λ s is. located_at is name i at ∙ ap some (rw at.1 at (e.is s is)),
+  λ s is. located_at is name i at ∙ ap Some (rw at.1 at (e.is s is)),
   rw e.place at.0,
 )
 
 -- no entry has the name, or the list of the one that has it lies outside: neither can be in an open segment that has the name
 pub found_none : {bytes : List ℕ} {l : Layout} {name : List ℕ}
-    → LocatedAny (cut bytes l).directory (cut bytes l).names l.terms name place.Absent → TermIsFound bytes l name found.Absent
+    → LocatedAny (cut bytes l).directory (cut bytes l).names l.terms name None → TermIsFound bytes l name None
 found_none {name = name} at s is = located_nowhere is name (at is.sorted)
 
 pub found_outside : {bytes : List ℕ} {l : Layout} (name : List ℕ) (i : ℕ) → i < l.terms → (ListLies bytes l i → ⊥)
-    → TermIsFound bytes l name found.Absent
+    → TermIsFound bytes l name None
 found_outside name i h out s is = absurd (out (is.list i h))
 
 -- the checksum of a list, then its postings
 module _ (number : List Posting → ℕ) (documents : List Document) (e : Entry) {sum : ℕ} (is : sum ≡ crc32_of e.list) where
-  pub sum_differs : (sum ≡ e.checksum → ⊥) → tally.Refused (checksum_mismatch term_postings) ≡ tallied_by number (decode documents e)
+  pub sum_differs : (sum ≡ e.checksum → ⊥) → Err (checksum_mismatch term_postings) ≡ tallied_by number (decode documents e)
   unfolding decode
   sum_differs n = rw (← is, ne_eqb sum e.checksum n)
 
-  pub sum_agrees : {r : Tally} → sum ≡ e.checksum → r ≡ tallied_by number (all_postings e.df documents e.list)
+  pub sum_agrees : {r : (Answer ℕ)} → sum ≡ e.checksum → r ≡ tallied_by number (all_postings e.df documents e.list)
       → r ≡ tallied_by number (decode documents e)
   unfolding decode
   sum_agrees same r = rw (← is, eq-eqb sum e.checksum same) r
@@ -115,11 +111,11 @@ nameless documents name bytes l = refl
 
 -- a tally that was answered is of postings, or of the refusal
 module _ (number : List Posting → ℕ) where
-  pub tally_ok : (r : Result (List Posting)) {n : ℕ} → tally.Positions n ≡ tallied_by number r
-      → (ps : List Posting) × (r ≡ ok ps) × (number ps ≡ n)
-  tally_ok (ok ps) e = (ps, refl, cc)
-  tally_ok (refuse x) e = let z : ◌≡◌ {A = ℕ} 0 1 = cc in absurd (omega arith)
+  pub tally_ok : (r : Answer (List Posting)) {n : ℕ} → Ok n ≡ tallied_by number r
+      → (ps : List Posting) × (r ≡ Ok ps) × (number ps ≡ n)
+  tally_ok (Ok ps) e = (ps, refl, cc)
+  tally_ok (Err x) e = let z : ◌≡◌ {A = ℕ} 0 1 = cc in absurd (omega arith)
 
-  pub tally_refused : (r : Result (List Posting)) {x : Refusal} → tally.Refused x ≡ tallied_by number r → r ≡ refuse x
-  tally_refused (ok ps) e = let z : ◌≡◌ {A = ℕ} 0 1 = cc in absurd (omega arith)
-  tally_refused (refuse y) e = cc
+  pub tally_refused : (r : Answer (List Posting)) {x : Refusal} → Err x ≡ tallied_by number r → r ≡ Err x
+  tally_refused (Ok ps) e = let z : ◌≡◌ {A = ℕ} 0 1 = cc in absurd (omega arith)
+  tally_refused (Err y) e = cc

@@ -1,42 +1,41 @@
--- Lists decoded together: the checksums of those so far match; a list whose checksum matches and whose bytes decode, decodes.
+-- Lists decoded together: a list whose checksum matches and whose bytes decode, decodes; and the tables that the lists are spread over.
 -- Assumes nothing.
-use mathlib.Core.Path.{◌≡◌, sym, ◌∙◌}
+use mathlib.Core.Path.{◌≡◌}
 use mathlib.Core.List.{List}
-use mathlib.Core.Logic.{⊎_elim}
-use Prim.Native.Nat.{ℕ, ◌+◌, ◌≤◌, ◌<◌}
+use Prim.Native.Nat.{ℕ, ◌+◌, ◌<◌}
 use native.Mathlib.Omega.{arith}
-use lib.ListN.{get_or}
+use lib.ListN.{length, get_or, set}
 use borrow.Author.Tests.{eq-eqb}
-use Rattle.common.proofs.Loops.{lt_or_ge}
+use Rattle.std.proofs.Common.{get_or-set_other, get_or-set_same, below_more}
 use Rattle.crc32.specs.Crc32.{crc32_of}
 use Rattle.segment.specs.Records.{Document, between}
 use Rattle.segment.specs.Postings.{decode}
+use Rattle.read_terms.specs.declared.find.TermList.{TermList}
 use Rattle.read_many.specs.Promise.{AllDecode}
-use Rattle.read_terms.specs.Together.{ListsDecode, SumsMatch}
+use Rattle.read_terms.specs.Together.{no_list, ListsDecode, SumsMatch, Spread}
 
-module _ (bytes starts ends checksums : List ℕ) where
-  pub sums_none : SumsMatch bytes 0 starts ends checksums
-  sums_none = record { each = λ k h. absurd (omega arith) }
+-- a table filled so far with a number of each list
+abbrev pub FilledTo : (number : TermList → ℕ) (lists : List TermList) (k : ℕ) (table : List ℕ) → Type 0
+FilledTo number lists k table = (j : ℕ) → j < k → get_or table j 0 ≡ number (get_or lists j no_list)
 
-  pub sums_more : (k : ℕ) {sum : ℕ} → SumsMatch bytes k starts ends checksums
-      → sum ≡ crc32_of (between (get_or starts k 0) (get_or ends k 0) bytes) → sum ≡ get_or checksums k 0
-      → SumsMatch bytes (k + 1) starts ends checksums
-  sums_more k m is same = record {
-    each = λ j h.
-        ⊎_elim (λ (b : j < k). m.each j b) (λ (b : k ≤ j). let s : j ≡ k = omega arith in rw s (sym is ∙ same)) (lt_or_ge j k);
-  }
-
-  pub sums_all : {m k : ℕ} → SumsMatch bytes k starts ends checksums → m ≤ k → SumsMatch bytes m starts ends checksums
-  sums_all s h = record { each = λ j b. s.each j (omega arith) }
+pub filled_more : (number : TermList → ℕ) (lists : List TermList) (k : ℕ) (table : List ℕ) {x : ℕ} → k < length table
+    → FilledTo number lists k table → x ≡ number (get_or lists k no_list) → FilledTo number lists (k + 1) (set table k x)
+filled_more number lists k table {x} below so_far is =
+    below_more _ _
+    (λ j h. let ne : j ≡ k → ⊥ = (λ e. omega arith) in rw get_or-set_other (so_far j h))
+    (rw get_or-set_same is)
 
 -- the checksum, then the postings
-pub decode_together : {documents : List Document} {bytes starts ends dfs checksums : List ℕ} {m : ℕ}
-    → SumsMatch bytes m starts ends checksums → AllDecode documents bytes m starts ends dfs
-    → ListsDecode documents bytes m starts ends dfs checksums
+pub decode_together : {documents : List Document} {bytes : List ℕ} {lists : List TermList} {starts ends dfs : List ℕ}
+    → SumsMatch bytes lists → Spread lists starts ends dfs → AllDecode documents bytes (length lists) starts ends dfs
+    → ListsDecode documents bytes lists
 unfolding decode
-decode_together {bytes = bytes} {starts = starts} {ends = ends} {checksums = checksums} s a = record {
-  each = λ k h. record {
-    postings = (a.each k h).decoded;
-    decoded = rw (eq-eqb (crc32_of (between (get_or starts k 0) (get_or ends k 0) bytes)) (get_or checksums k 0) (s.each k h)) (a.each k h).is;
-  };
+decode_together {bytes = bytes} {lists = lists} s t a = record {
+  each = λ k h.
+      let l = get_or lists k no_list in
+      let d = rw (t.start k h, t.end k h, t.df k h) at (a.each k h) in
+      record {
+        postings = d.decoded;
+        decoded = rw (eq-eqb (crc32_of (between l.start l.end bytes)) l.checksum (s.each k h)) d.is;
+      };
 }

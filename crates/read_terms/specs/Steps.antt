@@ -1,19 +1,15 @@
 -- What a term found and decoded means.
-use Rattle.std.specs.Prelude.{ℕ, ◌+◌, ◌*◌, ◌≤◌, ◌<◌, ◌≡◌, List, [], map, length, drop, get_or}
-use Rattle.std.proofs.Math.Option.{none, some}
+use Rattle.std.specs.Prelude.{Err, None, Ok, Option, Some, ℕ, ◌+◌, ◌*◌, ◌≤◌, ◌<◌, ◌≡◌, List, [], map, length, drop, get_or}
+use Rattle.segment.specs.Results.{Answer}
+use Rattle.read_terms.specs.declared.terms.DecodedList.{DecodedList}
 use Rattle.read_open.specs.declared.header.Layout.{Layout}
 use Rattle.segment.specs.Records.{Entry, Segment, between, field, entry_size, Posting}
 use Rattle.segment.specs.Directory.{entry_of}
 use Rattle.read_open.specs.Steps.{cut, name_at}
 use Rattle.read_open.specs.Opened.{IsOpen, Fits, no_entry}
 use Rattle.read_terms.specs.declared.find.TermList.{TermList}
-use Rattle.read_terms.specs.declared.find.TermFound.{TermFound}
-use Rattle.read_terms.specs.declared.find.TermFound.TheVariants as found
-use Rattle.segment.specs.Results.{ok, refuse}
 use Rattle.segment.specs.Postings.{total_positions}
 use Rattle.read_cursors.specs.Held.{held_postings, posting_of}
-use Rattle.read_terms.specs.declared.terms.Decoding.{Decoding}
-use Rattle.read_terms.specs.declared.terms.Decoding.TheVariants as decoding
 use Rattle.calls.specs.Reads.{term_list}
 
 pub record ListInside (bytes : List ℕ) (l : TermList) : Type 0 where
@@ -51,26 +47,26 @@ pub record EntryList (bytes : List ℕ) (l : Layout) (i : ℕ) (t : TermList) : 
       → get_or s.entries i no_entry ≡ entry_named (name_at (cut bytes l).directory (cut bytes l).names i) bytes t
 
 -- the entry of a name in the segment, whichever segment the layout is said to be of
-abbrev pub TermIsFound : (bytes : List ℕ) (l : Layout) (name : List ℕ) → TermFound → Type 0
-TermIsFound bytes l name (found.List t) =
+abbrev pub TermIsFound : (bytes : List ℕ) (l : Layout) (name : List ℕ) → Option TermList → Type 0
+TermIsFound bytes l name (Some t) =
     ListInside bytes t
     × (name_at (cut bytes l).directory (cut bytes l).names t.entry ≡ name)
-    × ((s : Segment) → IsOpen bytes l s → entry_of s.entries name ≡ some (entry_named name bytes t))
+    × ((s : Segment) → IsOpen bytes l s → entry_of s.entries name ≡ Some (entry_named name bytes t))
     × (t.entry < l.terms)
-TermIsFound bytes l name found.Absent = (s : Segment) → IsOpen bytes l s → entry_of s.entries name ≡ none
+TermIsFound bytes l name None = (s : Segment) → IsOpen bytes l s → entry_of s.entries name ≡ None
 
 -- What a term's decoded list means.
 
 -- a decoded list by offset: a cursor from there walks the postings that the definition decodes
 pub record ListIsDecoded (bytes : List ℕ) (name : List ℕ) (start df positions : ℕ) : Type 0 where
   pub postings : List Posting
-  pub decoded : term_list bytes name ≡ ok postings
-  pub walked : map posting_of (held_postings df none (drop start bytes)) ≡ postings
-  pub counts : map (λ s. s.count) (held_postings df none (drop start bytes)) ≡ map (λ p. length p.positions) postings
+  pub decoded : term_list bytes name ≡ Ok postings
+  pub walked : map posting_of (held_postings df None (drop start bytes)) ≡ postings
+  pub counts : map (λ s. s.count) (held_postings df None (drop start bytes)) ≡ map (λ p. length p.positions) postings
   pub count : length postings ≡ df
   pub total : total_positions postings ≡ positions
 
-abbrev pub Decodes : (bytes name : List ℕ) → Decoding → Type 0
-Decodes bytes name (decoding.List d) = ListIsDecoded bytes name d.start d.df d.positions
-Decodes bytes name decoding.Absent = term_list bytes name ≡ ok []
-Decodes bytes name (decoding.Refused x) = term_list bytes name ≡ refuse x
+abbrev pub Decodes : (bytes name : List ℕ) → Answer (Option DecodedList) → Type 0
+Decodes bytes name ((Ok (Some d))) = ListIsDecoded bytes name d.start d.df d.positions
+Decodes bytes name (Ok None) = term_list bytes name ≡ Ok []
+Decodes bytes name (Err x) = term_list bytes name ≡ Err x

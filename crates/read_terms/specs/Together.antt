@@ -1,29 +1,33 @@
 -- What lists that were decoded together promise.
-use Rattle.std.specs.Prelude.{ℕ, ◌<◌, ◌≡◌, List, [], get_or}
+use Rattle.std.specs.Prelude.{Ok, ℕ, ◌<◌, ◌≡◌, List, length, get_or}
 use Rattle.crc32.specs.Crc32.{crc32_of}
-use Rattle.segment.specs.Results.{ok}
-use Rattle.segment.specs.Records.{Document, Posting, Entry, between}
+use Rattle.segment.specs.Records.{Document, Posting, Entry}
 use Rattle.segment.specs.Postings.{decode}
+use Rattle.read_terms.specs.declared.find.TermList.{TermList}
+use Rattle.read_terms.specs.Steps.{list_entry, bytes_of_list}
 
--- the entry that list k of the tables came from; decoding asks for no name
-abbrev pub table_entry : (bytes starts ends dfs checksums : List ℕ) (k : ℕ) → Entry
-table_entry bytes starts ends dfs checksums k = record {
-  name = [];
-  list = between (get_or starts k 0) (get_or ends k 0) bytes;
-  df = get_or dfs k 0;
-  checksum = get_or checksums k 0;
-}
+abbrev pub no_list : TermList
+no_list = record { entry = 0; start = 0; end = 0; df = 0; checksum = 0 }
 
 pub record ListDecodes (documents : List Document) (e : Entry) : Type 0 where
   pub postings : List Posting
-  pub decoded : decode documents e ≡ ok postings
+  pub decoded : decode documents e ≡ Ok postings
 
--- every one of the first m lists of the tables decodes
-pub record ListsDecode (documents : List Document) (bytes : List ℕ) (m : ℕ) (starts ends dfs checksums : List ℕ) : Type 0 where
-  pub each : (k : ℕ) → k < m → ListDecodes documents (table_entry bytes starts ends dfs checksums k)
+-- every one of the lists decodes
+pub record ListsDecode (documents : List Document) (bytes : List ℕ) (lists : List TermList) : Type 0 where
+  pub each : (k : ℕ) → k < length lists → ListDecodes documents (list_entry bytes (get_or lists k no_list))
 
 -- ---- on the way
 
--- every one of the first m lists has the checksum that the directory stores
-pub record SumsMatch (bytes : List ℕ) (m : ℕ) (starts ends checksums : List ℕ) : Type 0 where
-  pub each : (k : ℕ) → k < m → crc32_of (between (get_or starts k 0) (get_or ends k 0) bytes) ≡ get_or checksums k 0
+-- every one of the lists has the checksum that the directory stores
+abbrev pub SumMatches : List ℕ → TermList → Type 0
+SumMatches bytes l = crc32_of (bytes_of_list bytes l) ≡ l.checksum
+
+pub record SumsMatch (bytes : List ℕ) (lists : List TermList) : Type 0 where
+  pub each : (k : ℕ) → k < length lists → SumMatches bytes (get_or lists k no_list)
+
+-- the tables have the lists' places and numbers of postings
+pub record Spread (lists : List TermList) (starts ends dfs : List ℕ) : Type 0 where
+  pub start : (k : ℕ) → k < length lists → get_or starts k 0 ≡ (get_or lists k no_list).start
+  pub end : (k : ℕ) → k < length lists → get_or ends k 0 ≡ (get_or lists k no_list).end
+  pub df : (k : ℕ) → k < length lists → get_or dfs k 0 ≡ (get_or lists k no_list).df

@@ -1,75 +1,67 @@
 // Many lists decoded together: their checksums, then all of them side by side over one pass of the metadata. Nothing is said where the
 // answer is false: decode_postings, list by list, says the refusal.
-ghost use Rattle.std.specs.Prelude.{◌≡◌, true, ◌≤◌, length};
-ghost use Rattle.std.proofs.Math.Option.{none};
+ghost use Rattle.std.specs.Prelude.{None, ◌≡◌, true, ◌≤◌, length};
 ghost use Rattle.read_open.specs.Steps.{SectionsFollow, cut};
 ghost use Rattle.read_cursors.specs.Held.{held_documents};
-ghost use Rattle.read_terms.specs.Together.{SumsMatch, ListsDecode};
+ghost use Rattle.read_terms.specs.Together.{SumsMatch, ListsDecode, Spread};
 
+use crate::find::TermList;
 use crc32::checksum::crc32;
 use read_many::lists::lists_sure;
 use read_open::header::Layout;
 
-// Whether each of the first m lists lies in the bytes and has the checksum that the directory stores.
-fn sums_match(
-    bytes: &[u8],
-    m: usize,
-    start: &[usize; 128],
-    end: &[usize; 128],
-    checksum: &[u32; 128],
-) -> bool
-    requires { m ≤ 128 }
-    ensures { result ≡ true → SumsMatch bytes.now m start.now end.now checksum.now }
+// Whether each of the lists lies in the bytes and has the checksum that the directory stores.
+fn sums_match(bytes: &[u8], lists: &[TermList]) -> bool
+    ensures { result ≡ true → SumsMatch bytes.now lists.now }
 {
-    let mut k: usize = 0;
-    while k < m {
-        let from = start[k];
-        let to = end[k];
-        if to < from {
+    for list in lists {
+        if list.end < list.start {
             return false;
         }
-        if bytes.len() < to {
+        if bytes.len() < list.end {
             return false;
         }
-        if crc32(&bytes[from..to]) != checksum[k] {
+        if crc32(&bytes[list.start..list.end]) != list.checksum {
             return false;
         }
-        k += 1;
     }
     true
 }
 
-// Whether the first m lists surely decode: list k lies in `bytes` from start[k] up to end[k] and has df[k] postings.
-pub fn lists_decode(
-    bytes: &[u8],
-    at: Layout,
-    m: usize,
-    start: &[usize; 128],
-    end: &[usize; 128],
-    df: &[u32; 128],
-    checksum: &[u32; 128],
-) -> bool
-    requires { SectionsFollow bytes.now at × (length start.now ≡ 128) × (length df.now ≡ 128) }
-    ensures { result ≡ true → ListsDecode (held_documents at.documents none (cut bytes.now at).metadata) bytes.now m
-        start.now end.now df.now checksum.now }
+// Where the lists lie and how many postings they have, each in a table of its own, as the check side by side takes them.
+fn spread(lists: &[TermList], start: &mut [usize; 128], end: &mut [usize; 128], df: &mut [u32; 128])
+    requires { length lists.now ≤ 128 }
+    ensures { Spread lists.now start.new end.new df.new }
 {
-    if 128 < m {
+    for k in 0..lists.len() {
+        start[k] = lists[k].start;
+        end[k] = lists[k].end;
+        df[k] = lists[k].df;
+    }
+}
+
+// Whether the lists surely decode, at most 128 of them.
+pub fn lists_decode(bytes: &[u8], at: Layout, lists: &[TermList]) -> bool
+    requires { SectionsFollow bytes.now at }
+    ensures { result ≡ true → ListsDecode (held_documents at.documents None (cut bytes.now at).metadata) bytes.now lists.now }
+{
+    if 128 < lists.len() {
         return false;
     }
-    if !sums_match(bytes, m, start, end, checksum) {
+    if !sums_match(bytes, lists) {
         return false;
     }
-    let mut from = *start;
-    let mut remaining = *df;
-    let metadata = at.metadata;
-    let lists = at.lists;
+    let mut start = [0usize; 128];
+    let mut end = [0usize; 128];
+    let mut df = [0u32; 128];
+    spread(lists, &mut start, &mut end, &mut df);
     lists_sure(
         bytes,
-        m,
-        &mut from,
-        end,
-        &mut remaining,
-        &bytes[metadata..lists],
+        lists.len(),
+        &start,
+        &end,
+        &df,
+        &bytes[at.metadata..at.lists],
         at.documents,
     )
 }

@@ -38,8 +38,7 @@ fn replay<R: Read>(rt: &impl Print, from: &mut R, cases: u32) -> io::Result<()> 
     let mut failed = [0u64; 16];
     let mut kinds = [0u64; 16];
     let mut failures: u32 = 0;
-    let mut i: u32 = 0;
-    while i < cases {
+    for i in 0..cases {
         if !read_case(from, &mut case)? {
             return put_malformed(rt, i);
         }
@@ -50,7 +49,6 @@ fn replay<R: Read>(rt: &impl Print, from: &mut R, cases: u32) -> io::Result<()> 
             count(&mut failed, outcome.call);
             failures = difference(rt, failures, i, outcome.call)?;
         }
-        i += 1;
     }
     if !is_at_end(from)? {
         return put_no_end(rt);

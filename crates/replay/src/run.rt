@@ -13,7 +13,6 @@ use pstp::read::{
 use pstp::write::pstp_write_positional_segment;
 use replay_list::buffers::{begins_with, fill, fill_bytes, read_numbers};
 use replay_list::fields::size_within;
-use replay_list::replies::same_reply;
 use segment::names::starts_with;
 
 // What the library answered: its kind, and whether reply and buffers are the case's.
@@ -136,7 +135,7 @@ pub fn run(case: &[u8; 4096]) -> Outcome {
     Outcome {
         call: call_of(case),
         kind: reply.kind,
-        same: same_reply(reply, reply_of(case))
+        same: reply == reply_of(case)
             && same_buffers(case, &numbers, &first, &second, &third, &out),
     }
 }

@@ -4,47 +4,31 @@ use crate::fields::number_at;
 // The numbers from a place on.
 pub fn read_numbers(bytes: &[u8], from: usize, numbers: &mut [u32]) {
     let mut at = from;
-    let mut i: usize = 0;
-    while i < numbers.len() {
-        numbers[i] = number_at(bytes, at);
+    for number in numbers.iter_mut() {
+        *number = number_at(bytes, at);
         at = std::num::wrapping_add_usize(at, 4);
-        i += 1;
     }
 }
 
 // Place i holds 0xDEAD0000 + i.
 pub fn fill(places: &mut [u32]) {
     let mut x: u32 = 0xDEAD0000;
-    let mut i: usize = 0;
-    while i < places.len() {
-        places[i] = x;
+    for place in places.iter_mut() {
+        *place = x;
         x = std::num::wrapping_add_u32(x, 1);
-        i += 1;
     }
 }
 
 // Byte i holds (90 + i) mod 256.
 pub fn fill_bytes(bytes: &mut [u8]) {
     let mut x: u8 = 90;
-    let mut i: usize = 0;
-    while i < bytes.len() {
-        bytes[i] = x;
+    for byte in bytes.iter_mut() {
+        *byte = x;
         x = std::num::wrapping_add_u8(x, 1);
-        i += 1;
     }
 }
 
 // Whether a buffer begins with the places that it must have.
 pub fn begins_with(buffer: &[u32], places: &[u32]) -> bool {
-    if buffer.len() < places.len() {
-        return false;
-    }
-    let mut i: usize = 0;
-    while i < places.len() {
-        if buffer[i] != places[i] {
-            return false;
-        }
-        i += 1;
-    }
-    true
+    buffer.starts_with(places)
 }

@@ -35,8 +35,7 @@ pub fn size_of(case: &[u8], part: usize) -> usize {
 pub fn size_within(case: &[u8], part: usize, most: usize) -> usize
     ensures { result ≤ most }
 {
-    let n = size_of(case, part);
-    if n < most { n } else { most }
+    size_of(case, part).min(most)
 }
 
 // How many elements the parts from one to before another have. No sum of so few u32 wraps.
@@ -44,10 +43,8 @@ pub fn sizes(case: &[u8], from: usize, to: usize) -> usize
     requires { to ≤ 100 }
 {
     let mut sum: usize = 0;
-    let mut part = from;
-    while part < to {
+    for part in (from..to).step_by(4) {
         sum = std::num::wrapping_add_usize(sum, size_of(case, part));
-        part += 4;
     }
     sum
 }

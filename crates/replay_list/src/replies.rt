@@ -14,17 +14,7 @@ pub fn reply_at(case: &[u8], at: usize, third: u64, fourth: u64) -> Reply
         index: long_number_at(case, at + 8),
         first: long_number_at(case, at + 16),
         second: long_number_at(case, at + 24),
-        third: third,
-        fourth: fourth,
+        third,
+        fourth,
     }
-}
-
-pub fn same_reply(a: Reply, b: Reply) -> bool {
-    a.kind == b.kind
-        && a.which == b.which
-        && a.index == b.index
-        && a.first == b.first
-        && a.second == b.second
-        && a.third == b.third
-        && a.fourth == b.fourth
 }

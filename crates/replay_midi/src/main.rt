@@ -33,10 +33,10 @@ fn difference(rt: &impl Print, failures: u32, i: u32) -> io::Result<u32> {
 
 // Accepted, no room, outside the rules, a bar too far.
 fn put_kinds(rt: &impl Print, kinds: &[u64; 16]) -> io::Result<()> {
-    put_kind(rt, 0, kinds[0])?;
-    put_kind(rt, 13, kinds[13])?;
-    put_kind(rt, 14, kinds[14])?;
-    put_kind(rt, 15, kinds[15])
+    for kind in [0u32, 13, 14, 15] {
+        put_kind(rt, kind as u64, kinds[kind as usize])?;
+    }
+    Ok(())
 }
 
 // The cases of a list, after its head.
@@ -44,8 +44,7 @@ fn replay<R: Read>(rt: &impl Print, from: &mut R, cases: u32) -> io::Result<()> 
     let mut case = [0u8; 4096];
     let mut kinds = [0u64; 16];
     let mut failures: u32 = 0;
-    let mut i: u32 = 0;
-    while i < cases {
+    for i in 0..cases {
         if !read_case(from, &mut case)? {
             return put_malformed(rt, i);
         }
@@ -54,7 +53,6 @@ fn replay<R: Read>(rt: &impl Print, from: &mut R, cases: u32) -> io::Result<()> 
         if !outcome.same {
             failures = difference(rt, failures, i)?;
         }
-        i += 1;
     }
     if !is_at_end(from)? {
         return put_no_end(rt);

@@ -6,7 +6,6 @@ use crate::case::{
 use pstp::midi::pstp_midi_bars;
 use replay_list::buffers::{begins_with, fill, fill_bytes, read_numbers};
 use replay_list::fields::{bytes_at, size_of, size_within};
-use replay_list::replies::same_reply;
 use segment::names::starts_with;
 
 // What the library answered: its kind, and whether reply and buffers are the case's.
@@ -107,7 +106,7 @@ pub fn run(case: &[u8; 4096]) -> Outcome {
     );
     Outcome {
         kind: reply.kind,
-        same: same_reply(reply, reply_of(case))
+        same: reply == reply_of(case)
             && same_buffers(
                 case,
                 &ids,

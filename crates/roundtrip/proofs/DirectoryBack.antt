@@ -1,9 +1,9 @@
 -- A directory that was written is read back, entry by entry.
 -- Assumes nothing.
+use Rattle.std.specs.Prelude.{None, Ok, Option, Some}
 use mathlib.Core.Path.{◌≡◌, refl}
 use mathlib.Core.Bool.{true}
 use mathlib.Core.List.{List, [], ◌∷◌, ◌++◌, map, append_assoc}
-use mathlib.Core.Option.{Option, none, some}
 use mathlib.Core.Logic.{inl, inr}
 use Prim.Native.Nat.{ℕ, ◌+◌, ◌*◌, ◌^◌, ◌<◌}
 use native.Mathlib.Omega.{arith}
@@ -12,7 +12,6 @@ use borrow.Author.Tests.{lt-ltb, eq-eqb}
 use Rattle.crc32.specs.Crc32.{crc32_of}
 use Rattle.utf8.proofs.Text.{grammar_agrees}
 use Rattle.segment.specs.Refusals.{term_bytes, postings}
-use Rattle.segment.specs.Results.{ok}
 use Rattle.segment.specs.Records.{Document, Term}
 use Rattle.segment.specs.Directory.{follows, read_list_range, read_entry, read_entries, directory}
 use Rattle.segment.specs.Written.{list_bytes, entry_bytes, directory_bytes, name_bytes, lists_bytes}
@@ -35,7 +34,7 @@ module _ (documents : List Document) (t : Term) (f : TermFine documents t) (few 
       → read_entry previous
       (entry_bytes (length names_before) (length t.name) (length lists_before) (list_bytes t) (length t.postings) ++ rest)
       (names_before ++ (t.name ++ names_after)) (lists_before ++ (list_bytes t ++ lists_after))
-      ≡ ok (entry_for t)
+      ≡ Ok (entry_for t)
   unfolding read_entry read_list_range
   entry_back previous later =
       let ln : length (names_before ++ (t.name ++ names_after))
@@ -62,7 +61,7 @@ module _ (documents : List Document) where
       → ((t : Term) → t ∈ ts → TermFine documents t) → ((t : Term) → t ∈ ts → length t.postings < 2 ^ 32)
       → length (names_before ++ name_bytes ts) < 2 ^ 32 → length (lists_before ++ lists_bytes ts) < 2 ^ 64
       → read_entries (length ts) previous (directory_bytes (length names_before) (length lists_before) ts)
-      (names_before ++ name_bytes ts) (lists_before ++ lists_bytes ts) ≡ ok (map entry_for ts)
+      (names_before ++ name_bytes ts) (lists_before ++ lists_bytes ts) ≡ Ok (map entry_for ts)
   unfolding read_entries directory_bytes name_bytes lists_bytes
   entries_back [] previous np lp a f few hn hl = refl
   entries_back (t ∷ ts) previous np lp a f few hn hl =
@@ -71,15 +70,15 @@ module _ (documents : List Document) where
             (directory_bytes (length np + length t.name) (length lp + length (list_bytes t)) ts) hn hl previous
             (name_head previous t.name (names_of ts) a),
         simp (length-append, append_assoc) at
-            (entries_back ts (some t.name) (np ++ t.name) (lp ++ list_bytes t) (name_tail previous t.name (names_of ts) a)
+            (entries_back ts (Some t.name) (np ++ t.name) (lp ++ list_bytes t) (name_tail previous t.name (names_of ts) a)
             (λ u m. f u (inr m)) (λ u m. few u (inr m)) (rw append_assoc hn) (rw append_assoc hl)),
       )
 
-pub directory_back : (documents : List Document) (ts : List Term) → AfterName none (names_of ts)
+pub directory_back : (documents : List Document) (ts : List Term) → AfterName None (names_of ts)
     → ((t : Term) → t ∈ ts → TermFine documents t) → ((t : Term) → t ∈ ts → length t.postings < 2 ^ 32)
     → length (name_bytes ts) < 2 ^ 32 → length (lists_bytes ts) < 2 ^ 64
-    → directory (length ts) (directory_bytes 0 0 ts) (name_bytes ts) (lists_bytes ts) ≡ ok (map entry_for ts)
+    → directory (length ts) (directory_bytes 0 0 ts) (name_bytes ts) (lists_bytes ts) ≡ Ok (map entry_for ts)
 unfolding directory
 directory_back documents ts a f few hn hl =
     rw (eq-eqb (length (directory_bytes 0 0 ts)) (32 * length ts) (directory_length ts 0 0))
-    (entries_back documents ts none [] [] a f few hn hl)
+    (entries_back documents ts None [] [] a f few hn hl)

@@ -1,16 +1,15 @@
 -- Document metadata that was written is read back as the documents handed in.
 -- Assumes nothing.
+use Rattle.std.specs.Prelude.{None, Ok, Option, Some}
 use mathlib.Core.Path.{◌≡◌, refl}
 use mathlib.Core.Bool.{true}
 use mathlib.Core.List.{List, [], ◌∷◌, ◌++◌, append_assoc, append-nil}
-use mathlib.Core.Option.{Option, none, some}
 use mathlib.Core.Logic.{inl, inr}
 use Prim.Native.Nat.{ℕ, suc, ◌^◌, ◌<◌}
 use lib.ListN.{length}
 use borrow.Author.Tests.{lt-ltb}
 use Rattle.leb128.specs.Leb128.{encoded}
 use Rattle.segment.specs.Refusals.{document_metadata}
-use Rattle.segment.specs.Results.{ok}
 use Rattle.segment.specs.Records.{Document, rises, gap}
 use Rattle.segment.specs.Metadata.{read_document, read_documents, metadata}
 use Rattle.segment.specs.Written.{metadata_bytes}
@@ -26,7 +25,7 @@ NumbersFit ds = (d : Document) → d ∈ ds → (d.id < 2 ^ 32) × (d.len < 2 ^ 
 
 document_back : (place : ℕ) (previous : Option ℕ) (d : Document) (rest : List ℕ)
     → rises previous d.id ≡ true → d.id < 2 ^ 32 → d.len < 2 ^ 32
-    → read_document place previous (encoded (gap previous d.id) ++ (encoded d.len ++ rest)) ≡ ok (record { got = d; rest = rest })
+    → read_document place previous (encoded (gap previous d.id) ++ (encoded d.len ++ rest)) ≡ Ok (record { got = d; rest = rest })
 unfolding read_document
 document_back place previous d rest up small short =
     rw (
@@ -38,17 +37,17 @@ document_back place previous d rest up small short =
     )
 
 documents_back : (ds : List Document) (previous : Option ℕ) (place : ℕ) (rest : List ℕ) → After previous (ids ds) → NumbersFit ds
-    → read_documents (length ds) place previous (metadata_bytes previous ds ++ rest) ≡ ok (record { got = ds; rest = rest })
+    → read_documents (length ds) place previous (metadata_bytes previous ds ++ rest) ≡ Ok (record { got = ds; rest = rest })
 unfolding read_documents metadata_bytes
 documents_back [] previous place rest a f = refl
 documents_back (d ∷ ds) previous place rest a f =
     let h = f d (inl refl) in
     simp append_assoc
     (rw (
-      document_back place previous d (metadata_bytes (some d.id) ds ++ rest) (after_head previous d.id (ids ds) a) h.0 h.1,
-      documents_back ds (some d.id) (suc place) rest (after_tail previous d.id (ids ds) a) (λ e m. f e (inr m)),
+      document_back place previous d (metadata_bytes (Some d.id) ds ++ rest) (after_head previous d.id (ids ds) a) h.0 h.1,
+      documents_back ds (Some d.id) (suc place) rest (after_tail previous d.id (ids ds) a) (λ e m. f e (inr m)),
     ))
 
-pub metadata_back : (ds : List Document) → Rising (ids ds) → NumbersFit ds → metadata (length ds) (metadata_bytes none ds) ≡ ok ds
+pub metadata_back : (ds : List Document) → Rising (ids ds) → NumbersFit ds → metadata (length ds) (metadata_bytes None ds) ≡ Ok ds
 unfolding metadata
-metadata_back ds r f = rw (← (append-nil (metadata_bytes none ds)), documents_back ds none 0 [] r f)
+metadata_back ds r f = rw (← (append-nil (metadata_bytes None ds)), documents_back ds None 0 [] r f)

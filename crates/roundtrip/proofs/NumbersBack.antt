@@ -1,8 +1,8 @@
 -- A number that was written in a fixed width, or as a gap, is read back.
 -- Assumes nothing.
+use Rattle.std.specs.Prelude.{None, Option, Some}
 use mathlib.Core.Path.{◌≡◌, refl}
 use mathlib.Core.Bool.{true}
-use mathlib.Core.Option.{Option, none, some}
 use Prim.Native.Nat.{ℕ, zero, suc, ◌/◌, ◌^◌, ◌<◌}
 use native.Mathlib.Nat.{pow-suc}
 use native.Mathlib.Omega.{arith}
@@ -16,9 +16,9 @@ fixed_back (suc n) x h = rw (fixed_back n (x / 256) (omega (arith, pow-suc 256 n
 
 -- the value at the gap is the value, and the gap is no greater
 pub gap_back : (previous : Option ℕ) (v : ℕ) → rises previous v ≡ true → at_gap previous (gap previous v) ≡ v
-gap_back none v t = refl
-gap_back (some p) v t = omega (arith, ltb-true p v t)
+gap_back None v t = refl
+gap_back (Some p) v t = omega (arith, ltb-true p v t)
 
 pub gap_lt : (previous : Option ℕ) (v b : ℕ) → v < b → gap previous v < b
-gap_lt none v b h = h
-gap_lt (some p) v b h = omega arith
+gap_lt None v b h = h
+gap_lt (Some p) v b h = omega arith

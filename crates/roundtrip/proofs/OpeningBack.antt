@@ -1,5 +1,6 @@
 -- A segment that was written opens: each field of the header and each section stands where the opening looks for it.
 -- Assumes nothing.
+use Rattle.std.specs.Prelude.{Ok}
 use mathlib.Core.Path.{◌≡◌, refl, sym}
 use mathlib.Core.List.{List, [], ◌++◌, append_assoc, append-nil}
 use Prim.Native.Nat.{ℕ, ◌+◌, ◌^◌, ◌<◌}
@@ -8,7 +9,6 @@ use lib.ListN.{length, take, length-append}
 use borrow.Author.Tests.{le-leb, eq-eqb}
 use Rattle.crc32.specs.Crc32.{crc32_of}
 use Rattle.segment.specs.Refusals.{term_directory, term_bytes, document_metadata, postings}
-use Rattle.segment.specs.Results.{ok}
 use Rattle.segment.specs.Records.{Document, Entry, field}
 use Rattle.segment.specs.Names.{same}
 use Rattle.segment.specs.Metadata.{metadata}
@@ -21,10 +21,10 @@ use Rattle.roundtrip.proofs.NumbersBack.{fixed_back}
 
 -- where the lengths before it say, each section stands, and the last ends the bytes
 record Placed (bytes : List ℕ) (s : Sections) : Type 0 where
-  directory : part term_directory 72 (length s.directory) bytes ≡ ok s.directory
-  names : part term_bytes (72 + length s.directory) (length s.names) bytes ≡ ok s.names
-  metadata : part document_metadata (72 + length s.directory + length s.names) (length s.metadata) bytes ≡ ok s.metadata
-  lists : part postings (72 + length s.directory + length s.names + length s.metadata) (length s.lists) bytes ≡ ok s.lists
+  directory : part term_directory 72 (length s.directory) bytes ≡ Ok s.directory
+  names : part term_bytes (72 + length s.directory) (length s.names) bytes ≡ Ok s.names
+  metadata : part document_metadata (72 + length s.directory + length s.names) (length s.metadata) bytes ≡ Ok s.metadata
+  lists : part postings (72 + length s.directory + length s.names + length s.metadata) (length s.lists) bytes ≡ Ok s.lists
   end : 72 + length s.directory + length s.names + length s.metadata + length s.lists ≡ length bytes
 
 -- what the header of these bytes says
@@ -46,7 +46,7 @@ record Headed (bytes : List ℕ) (s : Sections) : Type 0 where
 -- ---- read
 
 module _ (bytes : List ℕ) (s : Sections) (h : Headed bytes s) (p : Placed bytes s) where
-  ranges_back : ranges bytes ≡ ok s
+  ranges_back : ranges bytes ≡ Ok s
   unfolding ranges
   ranges_back =
       rw (
@@ -63,12 +63,12 @@ module _ (bytes : List ℕ) (s : Sections) (h : Headed bytes s) (p : Placed byte
         h.terms,
       )
 
-  sections_back : sections bytes ≡ ok s
+  sections_back : sections bytes ≡ Ok s
   unfolding sections same
   sections_back =
       rw (le-leb 72 (length bytes) (omega (arith, p.end)), h.begins, h.version, h.flags) ranges_back
 
-  checksums_back : checksums bytes s ≡ ok tt
+  checksums_back : checksums bytes s ≡ Ok tt
   unfolding checksums section_checksum
   checksums_back =
       rw (
@@ -78,9 +78,9 @@ module _ (bytes : List ℕ) (s : Sections) (h : Headed bytes s) (p : Placed byte
         eq-eqb _ _ (sym h.lists_sum),
       )
 
-  opening_back : (documents : List Document) (entries : List Entry) → metadata s.documents s.metadata ≡ ok documents
-      → directory s.terms s.directory s.names s.lists ≡ ok entries
-      → open_segment bytes ≡ ok (record { documents = documents; entries = entries })
+  opening_back : (documents : List Document) (entries : List Entry) → metadata s.documents s.metadata ≡ Ok documents
+      → directory s.terms s.directory s.names s.lists ≡ Ok entries
+      → open_segment bytes ≡ Ok (record { documents = documents; entries = entries })
   unfolding open_segment contents
   opening_back documents entries m d = rw (sections_back, checksums_back, m, d)
 
@@ -142,9 +142,9 @@ header_says s few_documents few_terms h = record {
 
 pub opens : (s : Sections) → s.documents < 2 ^ 32 → s.terms < 2 ^ 32
     → 72 + length s.directory + length s.names + length s.metadata + length s.lists < 2 ^ 64
-    → (documents : List Document) (entries : List Entry) → metadata s.documents s.metadata ≡ ok documents
-    → directory s.terms s.directory s.names s.lists ≡ ok entries
-    → open_segment (behind_header s) ≡ ok (record { documents = documents; entries = entries })
+    → (documents : List Document) (entries : List Entry) → metadata s.documents s.metadata ≡ Ok documents
+    → directory s.terms s.directory s.names s.lists ≡ Ok entries
+    → open_segment (behind_header s) ≡ Ok (record { documents = documents; entries = entries })
 opens s few_documents few_terms h =
     opening_back (behind_header s) s (header_says s few_documents few_terms h)
     (sections_placed (header_bytes s.documents s.terms s.directory s.names s.metadata s.lists) s refl h)

@@ -1,13 +1,12 @@
 -- What is written opens and decodes to what was handed in; laid flat it is the eight lists, and the counts add up.
 -- Assumes nothing.
+use Rattle.std.specs.Prelude.{None, Ok}
 use mathlib.Core.Path.{◌≡◌, sym, ap, ◌∙◌, subst}
 use mathlib.Core.List.{List, [], ◌∷◌, map}
 use mathlib.Core.Logic.{inl, inr}
-use mathlib.Core.Option.{none}
 use Prim.Native.Nat.{ℕ, suc, ◌^◌, ◌≤◌, ◌<◌}
 use native.Mathlib.Omega.{arith}
 use lib.ListN.{length, length-map}
-use Rattle.segment.specs.Results.{ok}
 use Rattle.segment.specs.Records.{Document, Posting, Term}
 use Rattle.segment.specs.Opening.{open_segment}
 use Rattle.calls.specs.Given.{Lists, given, laid_flat}
@@ -90,15 +89,15 @@ module _ (l : Lists) (typed : Typed l) (n : ListsFine l) where
   short_names : length (name_bytes ts) ≤ 16777216
   short_names = rw (text_is l n.shape) n.small.text
 
-  short_metadata : length (metadata_bytes none ds) ≤ 167772160
-  short_metadata = omega (arith, metadata_size none ds, taken_count (λ d. d.id) ds l.ids ids_are, n.small.ids)
+  short_metadata : length (metadata_bytes None ds) ≤ 167772160
+  short_metadata = omega (arith, metadata_size None ds, taken_count (λ d. d.id) ds l.ids ids_are, n.small.ids)
 
   short_lists : length (lists_bytes ts) ≤ 251658240
   short_lists = lists_small l n.small n.shape
 
   -- ---- opened, and decoded
 
-  pub opened : open_segment (segment_bytes (given l)) ≡ ok (record { documents = ds; entries = map entry_for ts })
+  pub opened : open_segment (segment_bytes (given l)) ≡ Ok (record { documents = ds; entries = map entry_for ts })
   unfolding segment_bytes
   opened =
       let few_documents = taken_count (λ d. d.id) ds l.ids ids_are in
@@ -108,7 +107,7 @@ module _ (l : Lists) (typed : Typed l) (n : ListsFine l) where
         terms = length ts;
         directory = directory_bytes 0 0 ts;
         names = name_bytes ts;
-        metadata = metadata_bytes none ds;
+        metadata = metadata_bytes None ds;
         lists = lists_bytes ts;
       })
       (omega (arith, few_documents, n.small.ids))
@@ -118,7 +117,7 @@ module _ (l : Lists) (typed : Typed l) (n : ListsFine l) where
       (metadata_back ds n.documents_rise numbers_fit)
       (directory_back ds ts n.names_rise n.each few_postings (omega (arith, short_names)) (omega (arith, short_lists)))
 
-  decoded : decode_segment (segment_bytes (given l)) ≡ ok (given l)
+  decoded : decode_segment (segment_bytes (given l)) ≡ Ok (given l)
   unfolding decode_segment
   decoded = rw (opened, lists_back ds n.documents_rise numbers_fit ts n.each few_positions)
 

@@ -1,6 +1,5 @@
 -- What is claimed of the bytes written: opened and decoded, they give back what was handed in.
-use Rattle.std.specs.Prelude.{ℕ, ◌<◌, ◌^◌, ◌+◌, ◌≡◌, List, [], ◌∷◌, length, get_or}
-use Rattle.segment.specs.Results.{ok}
+use Rattle.std.specs.Prelude.{Ok, ℕ, ◌<◌, ◌^◌, ◌+◌, ◌≡◌, List, [], ◌∷◌, length, get_or}
 use Rattle.segment.specs.Records.{Term}
 use Rattle.segment.specs.Postings.{total_positions}
 use Rattle.segment.specs.Contents.{decode_segment}
@@ -29,9 +28,9 @@ all_position_counts (t ∷ ts) = total_positions t.postings + all_position_count
 -- what was written opens and decodes to the documents, names and postings handed in, in their order; laid flat they are the eight
 -- lists; and the position counts add up to the number of positions handed in
 pub record ReadBackAs (l : Lists) (bytes : List ℕ) : Type 0 where
-  pub back : decode_segment bytes ≡ ok (given l)
+  pub back : decode_segment bytes ≡ Ok (given l)
   pub flat : laid_flat (given l) ≡ l
   pub counted : all_position_counts (given l).terms ≡ length l.positions
 
 abbrev pub ReadsBack : Type 0
-ReadsBack = (l : Lists) (room : ℕ) (bytes : List ℕ) → Typed l → write l room ≡ ok bytes → ReadBackAs l bytes
+ReadsBack = (l : Lists) (room : ℕ) (bytes : List ℕ) → Typed l → write l room ≡ Ok bytes → ReadBackAs l bytes

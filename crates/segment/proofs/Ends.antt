@@ -15,8 +15,8 @@ module _ (ends : List ℕ) (i from n : ℕ) {whole : Bool} (inv : ends_fit from 
   unfolding ends_fit
   turn h = rw (drop_step ends i 0 h) at inv
 
-  pub fit_next : (e : ℕ) → i < length ends → from ≤ get_or ends i 0 → e ≡ get_or ends i 0 → ends_fit e (drop (i + 1) ends) n ≡ whole
-  fit_next e h k is = rw is (rw (le-leb from (get_or ends i 0) k) at (turn h))
+  pub fit_next : i < length ends → from ≤ get_or ends i 0 → ends_fit (get_or ends i 0) (drop (i + 1) ends) n ≡ whole
+  fit_next h k = rw (le-leb from (get_or ends i 0) k) at (turn h)
 
   pub fit_not : i < length ends → get_or ends i 0 < from → false ≡ whole
   fit_not h k = rw (lt-leb from (get_or ends i 0) k) at (turn h)

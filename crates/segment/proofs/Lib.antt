@@ -6,7 +6,6 @@ pub mod Within
 pub mod After
 pub mod ReadRising
 pub mod Ends
-pub mod Fields
 pub mod Inversions
 pub mod Shapes
 pub mod Strings

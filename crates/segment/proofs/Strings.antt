@@ -1,19 +1,20 @@
--- Byte strings: the same is equal, the byte order is the order in words and strict and total, both a byte at a time, and what an order
--- that was answered says.
+-- Byte strings: the same is equal, the byte order is the order in words and strict and total, the library's tests of slices are these two,
+-- and what an order that was answered says.
 -- Assumes nothing.
+use Rattle.std.specs.declared.cmp.Ordering.{Ordering}
+use Rattle.std.specs.declared.cmp.Ordering.TheVariants.{Less, Equal, Greater}
+use Rattle.std.specs.Cmp.Lexicographic.{pointwise, slice_cmp}
+use Rattle.std.specs.Ordering.{nat_cmp, ordering_then}
+use Rattle.std.proofs.lemmas.Cmp.{nat_eq_equiv}
 use mathlib.Core.Path.{◌≡◌, refl, sym, ap, ap₂, ◌∙◌}
 use mathlib.Core.Bool.{Bool, true, false, cond, ◌&&◌, ◌||◌}
 use mathlib.Core.List.{List, [], ◌∷◌, ◌++◌}
 use mathlib.Core.Logic.{◌⊎◌, inl, inr, ⊎_elim}
-use Prim.Native.Nat.{ℕ, ◌+◌, ◌≤◌, ◌<◌}
+use Prim.Native.Nat.{ℕ, ◌<◌}
 use native.Mathlib.Omega.{arith}
 use lib.Dec.{ltb, eqb}
-use lib.ListN.{length, take, drop, get_or, length-take}
-use lib.Seq.{get_or-take, ext_get_or}
-use borrow.Author.Tests.{ltb-true, ltb-false, eqb-true, eqb-false, lt-ltb, le-ltb, eq-eqb, ne_eqb}
-use Rattle.common.proofs.Loops.{true_false, and_left, and_right, drop_step, drop_end}
-use Rattle.segment.specs.declared.names.Order.{Order}
-use Rattle.segment.specs.declared.names.Order.TheVariants.{Less, Equal, Greater}
+use borrow.Author.Tests.{ltb-true, ltb-false, eqb-true, eqb-false, lt-ltb, le-ltb, eq-eqb}
+use Rattle.common.proofs.Loops.{true_false, and_left, and_right}
 use Rattle.segment.specs.Names.{same, precedes, Before}
 use Rattle.segment.specs.Steps.{order}
 use Rattle.segment.specs.Claims.{SameAgrees, OrderAgrees}
@@ -143,59 +144,34 @@ precedes_total (x ∷ a) (y ∷ b) e f = step (ltb x y) (eqb x y) refl refl e f 
     step false true l w h k ih = rw (eqb-true x y w) (level y _ ∙ ih h k)
     step false false l w h k ih = lower y x _ (omega (arith, ltb-false x y l, eqb-false x y w))
 
--- ---- a byte at a time
+-- ---- the library's tests of slices
 
--- a slice that begins with a mark, and one that does not
-module _ (s m : List ℕ) where
-  pub begins : length m ≤ length s → ((k : ℕ) → k < length m → get_or s k 0 ≡ get_or m k 0) → true ≡ same (take (length m) s) m
-  begins h f =
-      let n : length (take (length m) s) ≡ length m = simp length-take (omega arith) in
-      sym ((same_is _ _).1 (ext_get_or 0 _ m n (λ i l. get_or-take (length m) s i 0 (omega arith) ∙ f i (omega arith))))
+-- the library's test of equality, which takes the two the other way round
+pub pointwise_same : (a b : List ℕ) → pointwise eqb b a ≡ same a b
+unfolding same
+pointwise_same [] [] = refl
+pointwise_same [] (y ∷ b) = refl
+pointwise_same (x ∷ a) [] = refl
+pointwise_same (x ∷ a) (y ∷ b) = rw (nat_eq_equiv.symm y x, pointwise_same a b)
 
-  pub begins_short : length s < length m → false ≡ same (take (length m) s) m
-  begins_short h = sym (apart _ m (λ e. omega (arith, simp length-take at (ap length e))))
-
-  pub begins_not : (i : ℕ) → i < length m → (get_or s i 0 ≡ get_or m i 0 → ⊥) → false ≡ same (take (length m) s) m
-  begins_not i h n = sym (apart _ m (λ e. n (sym (get_or-take (length m) s i 0 h) ∙ ap (λ l. get_or l i 0) e)))
-
--- the order of what is left is the order of the whole
-module _ (a b : List ℕ) (i : ℕ) {whole : Order} (inv : order (drop i a) (drop i b) ≡ whole) where
-  pub order_long : i < length a → length b ≤ i → Greater ≡ whole
-  unfolding precedes same
-  order_long h k = rw (drop_step a i 0 h, drop_end b i k) at inv
-
-  pub order_short : length a ≤ i → i < length b → Less ≡ whole
-  unfolding precedes same
-  order_short h k = rw (drop_end a i h, drop_step b i 0 k) at inv
-
-  pub order_end : length a ≤ i → length b ≤ i → Equal ≡ whole
-  unfolding precedes same
-  order_end h k = rw (drop_end a i h, drop_end b i k) at inv
-
-  pub order_less : i < length a → i < length b → get_or a i 0 < get_or b i 0 → Less ≡ whole
-  unfolding precedes same
-  order_less h k l = rw (drop_step a i 0 h, drop_step b i 0 k, lt-ltb _ _ l) at inv
-
-  pub order_greater : i < length a → i < length b → get_or b i 0 < get_or a i 0 → Greater ≡ whole
-  unfolding precedes same
-  order_greater h k l =
-      rw (
-        drop_step a i 0 h,
-        drop_step b i 0 k,
-        le-ltb (get_or a i 0) (get_or b i 0) (omega arith),
-        ne_eqb (get_or a i 0) (get_or b i 0)
-            (omega arith),
-      ) at inv
-
-  pub order_next : i < length a → i < length b → get_or a i 0 ≡ get_or b i 0 → order (drop (i + 1) a) (drop (i + 1) b) ≡ whole
-  unfolding precedes same
-  order_next h k l =
-      rw (drop_step a i 0 h, drop_step b i 0 k, le-ltb (get_or a i 0) (get_or b i 0) (omega arith), eq-eqb (get_or a i 0) (get_or b i 0) l) at inv
+-- the library's order of slices
+pub cmp_order : (a b : List ℕ) → slice_cmp nat_cmp a b ≡ order a b
+unfolding precedes same
+cmp_order [] [] = refl
+cmp_order [] (y ∷ b) = refl
+cmp_order (x ∷ a) [] = refl
+cmp_order (x ∷ a) (y ∷ b) = by_heads (ltb x y) (eqb x y) (precedes a b) (same a b) (cmp_order a b)
+  where
+    by_heads : (l q p s : Bool) {rest : Ordering} → rest ≡ cond p Less (cond s Equal Greater)
+        → ordering_then (cond l Less (cond q Equal Greater)) rest ≡ cond (l || (q && p)) Less (cond (q && s) Equal Greater)
+    by_heads true q p s e = refl
+    by_heads false true p s e = e
+    by_heads false false p s e = refl
 
 -- ---- an order that was answered
 
 -- what an order says of the two tests that it is made of
-abbrev Told : Bool → Bool → Order → Type 0
+abbrev Told : Bool → Bool → Ordering → Type 0
 Told before equal Less = before ≡ true
 Told before equal Equal = (before ≡ false) × (equal ≡ true)
 Told before equal Greater = (before ≡ false) × (equal ≡ false)

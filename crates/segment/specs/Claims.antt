@@ -1,9 +1,8 @@
 -- What is claimed of the tests on names and texts: each is the same as its words; and of a segment's names. Proved in proofs/: Strings,
 -- Shapes, Named.
-use Rattle.std.specs.Prelude.{ℕ, ◌≡◌, true, List, ◌↔◌, length}
+use Rattle.std.specs.Prelude.{Ok, ℕ, ◌≡◌, true, List, ◌↔◌, length}
 use Rattle.common.specs.Elements.{◌∈◌}
 use Rattle.utf8.specs.Utf8.{IsUtf8}
-use Rattle.segment.specs.Results.{ok}
 use Rattle.segment.specs.Records.{Entry, Segment}
 use Rattle.segment.specs.Opening.{open_segment}
 use Rattle.segment.specs.Names.{same, precedes, Before}
@@ -23,4 +22,4 @@ ShapeAgrees = (text ends : List ℕ) → (ends_fit 0 ends (length text) ≡ true
 
 -- every name of a segment that opens is UTF-8
 abbrev pub NamesUtf8 : Type 0
-NamesUtf8 = (bytes : List ℕ) (s : Segment) → open_segment bytes ≡ ok s → (e : Entry) → e ∈ s.entries → IsUtf8 e.name
+NamesUtf8 = (bytes : List ℕ) (s : Segment) → open_segment bytes ≡ Ok s → (e : Entry) → e ∈ s.entries → IsUtf8 e.name

@@ -1,9 +1,10 @@
 -- A segment opened: document 01's order of checks. Posting lists are not decoded here.
-use Rattle.std.specs.Prelude.{ℕ, ◌+◌, List, [], ◌∷◌, leb, eqb, length, take}
+use Rattle.segment.specs.declared.refusal.Section.{Section}
+use Rattle.std.specs.Prelude.{Ok, ℕ, ◌+◌, List, [], ◌∷◌, leb, eqb, length, take}
 use Rattle.crc32.specs.Crc32.{crc32_of}
 use Rattle.segment.specs.Refusals.{header, term_directory, term_bytes, document_metadata, postings, truncated, invalid_magic}
 use Rattle.segment.specs.Refusals.{unsupported_version, unsupported_flags, checksum_mismatch, invalid_layout, trailing_bytes}
-use Rattle.segment.specs.Results.{Result, ok, ◌>>=◌, check}
+use Rattle.segment.specs.Results.{Answer, ◌>>=◌, check}
 use Rattle.segment.specs.Records.{Segment, field, header_size}
 use Rattle.segment.specs.Names.{same}
 use Rattle.segment.specs.Metadata.{metadata}
@@ -24,7 +25,7 @@ pub record Sections : Type 0 where
 
 -- The header is magic; u32 version 2, flags 0, document count, term count; u64 lengths of directory, term bytes, metadata, postings;
 -- u32 checksums of the same four: 72 bytes. The four sections follow in that order and end the segment.
-unfoldable pub ranges : List ℕ → Result Sections
+unfoldable pub ranges : List ℕ → Answer Sections
 ranges bytes = do
   dir ← part term_directory header_size (field 8 24 bytes) bytes
   names ← part term_bytes (header_size + field 8 24 bytes) (field 8 32 bytes) bytes
@@ -32,7 +33,7 @@ ranges bytes = do
   lists ← part postings (header_size + field 8 24 bytes + field 8 32 bytes + field 8 40 bytes) (field 8 48 bytes) bytes
   _ ← check (eqb (header_size + field 8 24 bytes + field 8 32 bytes + field 8 40 bytes + field 8 48 bytes) (length bytes))
       (invalid_layout trailing_bytes)
-  ok (record {
+  Ok (record {
     documents = field 4 16 bytes;
     terms = field 4 20 bytes;
     directory = dir;
@@ -41,7 +42,7 @@ ranges bytes = do
     lists = lists;
   })
 
-unfoldable pub sections : List ℕ → Result Sections
+unfoldable pub sections : List ℕ → Answer Sections
 sections bytes = do
   _ ← check (leb header_size (length bytes)) (truncated header)
   _ ← check (same (take 8 bytes) magic) invalid_magic
@@ -50,11 +51,11 @@ sections bytes = do
   ranges bytes
 
 -- the checksum of a section, which the header has at a place
-unfoldable pub section_checksum : (section : ℕ) (part : List ℕ) (at : ℕ) (bytes : List ℕ) → Result (Unit {0})
+unfoldable pub section_checksum : (section : Section) (part : List ℕ) (at : ℕ) (bytes : List ℕ) → Answer (Unit {0})
 section_checksum section part at bytes = check (eqb (crc32_of part) (field 4 at bytes)) (checksum_mismatch section)
 
 -- the four checksums
-unfoldable pub checksums : List ℕ → Sections → Result (Unit {0})
+unfoldable pub checksums : List ℕ → Sections → Answer (Unit {0})
 checksums bytes s = do
   _ ← section_checksum term_directory s.directory 56 bytes
   _ ← section_checksum term_bytes s.names 60 bytes
@@ -62,13 +63,13 @@ checksums bytes s = do
   section_checksum postings s.lists 68 bytes
 
 -- what the sections hold
-unfoldable pub contents : Sections → Result Segment
+unfoldable pub contents : Sections → Answer Segment
 contents s = do
   documents ← metadata s.documents s.metadata
   entries ← directory s.terms s.directory s.names s.lists
-  ok (record { documents = documents; entries = entries })
+  Ok (record { documents = documents; entries = entries })
 
-unfoldable pub open_segment : List ℕ → Result Segment
+unfoldable pub open_segment : List ℕ → Answer Segment
 open_segment bytes = do
   s ← sections bytes
   _ ← checksums bytes s

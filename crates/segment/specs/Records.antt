@@ -1,9 +1,9 @@
 -- What a segment holds.
-use Rattle.std.specs.Prelude.{ℕ, ◌+◌, ◌-◌, ◌*◌, Bool, true, List, [], ◌∷◌, ltb, take, drop}
-use Rattle.std.proofs.Math.Option.{Option, none, some}
+use Rattle.segment.specs.declared.refusal.Section.{Section}
+use Rattle.std.specs.Prelude.{Err, None, Ok, Option, Some, ℕ, ◌+◌, ◌-◌, ◌*◌, Bool, true, List, [], ◌∷◌, ltb, take, drop}
 use Rattle.leb128.specs.Leb128.{Leb, stored}
 use Rattle.segment.specs.Refusals.{invalid_varint}
-use Rattle.segment.specs.Results.{Result, ok, refuse}
+use Rattle.segment.specs.Results.{Answer}
 
 -- A document (document 01: a bar): its id and its length
 pub record Document : Type 0 where
@@ -51,7 +51,7 @@ entry_size = 32
 abbrev pub between : ℕ → ℕ → List ℕ → List ℕ
 between from to bytes = take (to - from) (drop from bytes)
 
--- ---- numbers of fixed width, little_endian
+-- ---- numbers of fixed width, little-endian
 
 abbrev pub little_endian : List ℕ → ℕ
 little_endian [] = 0
@@ -69,26 +69,26 @@ pub record Read (A : Type 0) : Type 0 where
   pub rest : List ℕ
 
 -- a stored number, or kind 7 with its section and index
-abbrev pub number_or : (section index : ℕ) (bytes : List ℕ) → Option Leb → Result (Read ℕ)
-number_or section index bytes none = refuse (invalid_varint section index)
-number_or section index bytes (some n) = ok (record { got = n.value; rest = drop n.size bytes })
+abbrev pub number_or : (section : Section) (index : ℕ) (bytes : List ℕ) → Option Leb → Answer (Read ℕ)
+number_or section index bytes None = Err (invalid_varint section index)
+number_or section index bytes (Some n) = Ok (record { got = n.value; rest = drop n.size bytes })
 
-abbrev pub number : (section index : ℕ) (bytes : List ℕ) → Result (Read ℕ)
+abbrev pub number : (section : Section) (index : ℕ) (bytes : List ℕ) → Answer (Read ℕ)
 number section index bytes = number_or section index bytes (stored bytes)
 
 -- ---- values that are stored as gaps; before the first there is none
 
 -- the value at a gap: the first gap is the value itself
 abbrev pub at_gap : Option ℕ → ℕ → ℕ
-at_gap none g = g
-at_gap (some p) g = p + g
+at_gap None g = g
+at_gap (Some p) g = p + g
 
 -- strictly above the one before
 abbrev pub rises : Option ℕ → ℕ → Bool
-rises none v = true
-rises (some p) v = ltb p v
+rises None v = true
+rises (Some p) v = ltb p v
 
 -- the gap to a value: the first gap is the value itself
 abbrev pub gap : Option ℕ → ℕ → ℕ
-gap none v = v
-gap (some p) v = v - p
+gap None v = v
+gap (Some p) v = v - p

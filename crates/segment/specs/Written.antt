@@ -1,6 +1,5 @@
 -- The bytes of a segment: header, directory, term bytes, metadata, posting lists (document 01, "The segment").
-use Rattle.std.specs.Prelude.{ℕ, zero, suc, ◌+◌, ◌/◌, ◌%◌, List, [], ◌∷◌, ◌++◌, map, length}
-use Rattle.std.proofs.Math.Option.{Option, none, some}
+use Rattle.std.specs.Prelude.{None, Option, Some, ℕ, zero, suc, ◌+◌, ◌/◌, ◌%◌, List, [], ◌∷◌, ◌++◌, map, length}
 use Rattle.leb128.specs.Leb128.{encoded}
 use Rattle.crc32.specs.Crc32.{crc32_of}
 use Rattle.segment.specs.Records.{Document, Posting, Term, Given, gap}
@@ -14,22 +13,22 @@ fixed (suc n) x = x % 256 ∷ fixed n (x / 256)
 
 unfoldable pub metadata_bytes : (previous : Option ℕ) → List Document → List ℕ
 metadata_bytes previous [] = []
-metadata_bytes previous (d ∷ ds) = encoded (gap previous d.id) ++ encoded d.len ++ metadata_bytes (some d.id) ds
+metadata_bytes previous (d ∷ ds) = encoded (gap previous d.id) ++ encoded d.len ++ metadata_bytes (Some d.id) ds
 
 unfoldable pub position_bytes : (previous : Option ℕ) → List ℕ → List ℕ
 position_bytes previous [] = []
-position_bytes previous (p ∷ ps) = encoded (gap previous p) ++ position_bytes (some p) ps
+position_bytes previous (p ∷ ps) = encoded (gap previous p) ++ position_bytes (Some p) ps
 
 unfoldable pub posting_bytes : (previous : Option ℕ) → Posting → List ℕ
-posting_bytes previous p = encoded (gap previous p.doc) ++ encoded (length p.positions) ++ position_bytes none p.positions
+posting_bytes previous p = encoded (gap previous p.doc) ++ encoded (length p.positions) ++ position_bytes None p.positions
 
 unfoldable pub postings_bytes : (previous : Option ℕ) → List Posting → List ℕ
 postings_bytes previous [] = []
-postings_bytes previous (p ∷ ps) = posting_bytes previous p ++ postings_bytes (some p.doc) ps
+postings_bytes previous (p ∷ ps) = posting_bytes previous p ++ postings_bytes (Some p.doc) ps
 
 -- a term's posting list
 abbrev pub list_bytes : Term → List ℕ
-list_bytes t = postings_bytes none t.postings
+list_bytes t = postings_bytes None t.postings
 
 -- u32 term offset, u32 term length, u64 postings offset, u64 postings length, u32 df, u32 checksum of these postings
 abbrev pub entry_bytes : (name_at name_length list_at : ℕ) (list : List ℕ) (df : ℕ) → List ℕ
@@ -62,4 +61,4 @@ with_header documents terms directory names metadata lists =
 unfoldable pub segment_bytes : Given → List ℕ
 segment_bytes g =
     with_header (length g.documents) (length g.terms)
-    (directory_bytes 0 0 g.terms) (name_bytes g.terms) (metadata_bytes none g.documents) (lists_bytes g.terms)
+    (directory_bytes 0 0 g.terms) (name_bytes g.terms) (metadata_bytes None g.documents) (lists_bytes g.terms)

@@ -2,8 +2,6 @@
 ghost use Rattle.std.specs.Prelude.{◌≡◌, ◌+◌, ◌≤◌, length};
 ghost use Rattle.segment.specs.Records.{field};
 
-use common::widths::{byte, long};
-
 // The header's bytes; the directory starts behind them.
 pub const HEADER_SIZE: usize = 72;
 
@@ -15,11 +13,7 @@ pub fn read_u32_at(s: &[u8], at: usize) -> u32
     requires { at + 4 ≤ length s.now }
     ensures { result ≡ field 4 at s.now }
 {
-    let b0 = byte(s[at]);
-    let b1 = byte(s[at + 1]);
-    let b2 = byte(s[at + 2]);
-    let b3 = byte(s[at + 3]);
-    b0 + b1 * 256 + b2 * 65536 + b3 * 16777216
+    u32::from_le_bytes(s[at..at + 4].try_into().unwrap())
 }
 
 // The u64 at an offset.
@@ -27,7 +21,5 @@ pub fn read_usize_at(s: &[u8], at: usize) -> usize
     requires { at + 8 ≤ length s.now }
     ensures { result ≡ field 8 at s.now }
 {
-    let low = long(read_u32_at(s, at));
-    let high = long(read_u32_at(s, at + 4));
-    low + high * 4294967296
+    usize::from_le_bytes(s[at..at + 8].try_into().unwrap())
 }

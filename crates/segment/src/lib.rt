@@ -1,8 +1,7 @@
 // The segment format (document 01), read and written form side by side. specs/ is the place to start: it defines the whole format. The code
 // here is what every crate above shares. Read in this order:
-//   refusal    the three numbers of a refusal, and a constructor for each kind
-//   replies    what the calls answer
-//   checked    passed, or a refusal
+//   refusal    why a call refuses, and the three numbers that a caller in C is told
+//   replies    what the calls answer where they accept
 //   ids        document ids and token positions, two types that do not mix
 //   fixed      numbers of fixed width, little-endian
 //   names      equality and byte order of names
@@ -10,7 +9,6 @@
 // Crates read_lists and read_open check a segment's bytes, crates write_* write them.
 #![tactic(auto)]
 
-pub mod checked;
 pub mod fixed;
 pub mod ids;
 pub mod names;

@@ -8,15 +8,12 @@ use common::widths::long;
 pub fn ends_fit(ends: &[u32], n: usize) -> bool
     ensures { result ≡ ends_fit 0 ends.now n }
 {
-    let mut from: usize = 0;
-    let mut i: usize = 0;
-    while i < ends.len() {
-        let end = long(ends[i]);
+    let mut from = 0;
+    for &end in ends {
         if end < from {
             return false;
         }
         from = end;
-        i += 1;
     }
-    from == n
+    long(from) == n
 }

@@ -1,29 +1,16 @@
 // A bar's id, from decimal digits.
-use common::widths::{byte, wide};
-
-#[derive(Clone, Copy)]
-pub enum BarId {
-    Id(u32),
-    NotOne,
-}
 
 // An id has at least one digit, and is below 2^32.
-pub fn read_id(word: &[u8]) -> BarId {
-    if word.len() == 0 {
-        return BarId::NotOne;
+pub fn read_id(word: &[u8]) -> Option<u32> {
+    if word.is_empty() {
+        return None;
     }
-    let mut id: u64 = 0;
-    let mut i: usize = 0;
-    while i < word.len() {
-        let b = wide(byte(word[i]));
-        if b < 48 || 57 < b {
-            return BarId::NotOne;
+    let mut id: u32 = 0;
+    for &b in word {
+        if !b.is_ascii_digit() {
+            return None;
         }
-        id = id * 10 + (b - 48);
-        if 4294967295 < id {
-            return BarId::NotOne;
-        }
-        i += 1;
+        id = id.checked_mul(10)?.checked_add(u32::from(b - b'0'))?;
     }
-    BarId::Id(id as u32)
+    Some(id)
 }

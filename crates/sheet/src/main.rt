@@ -7,11 +7,10 @@
 
 mod id;
 
-use id::{BarId, read_id};
+use id::read_id;
 use program_io::{argument, argument_count, open_named, put_failure, read_full};
 use segment::ids::DocId;
-use segment::refusal::{Refusal, too_large};
-use segment::replies::Counted;
+use segment::refusal::Refusal;
 use show_listing::list::list_refusal;
 use show_print::paper::write_sheet;
 use std::fs::File;
@@ -21,8 +20,8 @@ use std::io::{Print, Write};
 // A refusal's line. No index of a refusal has more than ten digits here.
 fn print_refusal(rt: &HostRuntime, x: Refusal) -> io::Result<()> {
     let mut line = [0u8; 31];
-    if x.index < 10000000000 {
-        list_refusal(x, &mut line);
+    if x.numbers().index < 10000000000 {
+        let _ = list_refusal(x, &mut line);
         Print::write_all(rt, &line)?;
     }
     Ok(())
@@ -35,8 +34,8 @@ fn print_sheet(
     text: &mut [u8; 1048576],
 ) -> io::Result<()> {
     match write_sheet(&mut rt.stdout(), segment, DocId(id), text)? {
-        Counted::Refused(x) => print_refusal(rt, x),
-        Counted::Count(_) => Ok(()),
+        Err(x) => print_refusal(rt, x),
+        Ok(_) => Ok(()),
     }
 }
 
@@ -50,7 +49,7 @@ fn print_file(
 ) -> io::Result<()> {
     let n = read_full(file, segment)?;
     if 4194304 < n {
-        return print_refusal(rt, too_large());
+        return print_refusal(rt, Refusal::TooLarge);
     }
     print_sheet(rt, &segment[..n], id, text)
 }
@@ -92,8 +91,8 @@ fn print_pair(rt: &HostRuntime, file: usize, bar: usize) -> io::Result<()> {
     let mut word = [0u8; 4096];
     let w = argument(rt, bar, &mut word);
     match read_id(&word[..w]) {
-        BarId::Id(id) => print_bar(rt, &name[..n], id),
-        BarId::NotOne => put_no_id(rt, &word[..w]),
+        Some(id) => print_bar(rt, &name[..n], id),
+        None => put_no_id(rt, &word[..w]),
     }
 }
 
@@ -103,10 +102,8 @@ fn main(rt: HostRuntime) -> io::Result<()> {
     if count < 3 || count % 2 == 0 {
         return eprintln!(rt; "usage: sheet FILE ID ..");
     }
-    let mut i: usize = 1;
-    while i < count - 1 {
+    for i in (1..count - 1).step_by(2) {
         print_pair(&rt, i, i + 1)?;
-        i += 2;
     }
     Ok(())
 }

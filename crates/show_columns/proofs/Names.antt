@@ -1,15 +1,16 @@
 -- A name's column as the code stores it: the bytes of the first characters as they print, then spaces.
 -- Assumes nothing.
 use mathlib.Core.Path.{◌≡◌, refl, sym, ap, ap₂, ◌∙◌}
-use mathlib.Core.List.{List, [], ◌∷◌, ◌++◌, map, map-append}
+use mathlib.Core.List.{List, [], ◌∷◌, ◌++◌, map, map-append, append_assoc}
 use mathlib.Core.Bool.{Bool, true, false, cond, ◌||◌}
 use mathlib.Core.Logic.{⊎_elim}
 use Prim.Native.Nat.{ℕ, ◌+◌, ◌-◌, ◌*◌, ◌≤◌, ◌<◌}
 use native.Mathlib.Omega.{arith}
 use lib.Dec.{ltb, eqb}
-use lib.ListN.{length, take, drop, get_or, replicate, length-append, length-map, length-take, length-replicate, get_or-replicate}
-use lib.ListN.{get_or-map}
-use lib.Seq.{length-take-le, get_or-take}
+use lib.ListN.{length, take, drop, get_or, replicate, length-append, length-map, length-take, length-replicate, get_or-map}
+use lib.Seq.{length-take-le, drop-drop, sets-eq}
+use borrow.Rule.Slice.PartMut.{put_mid}
+use Rattle.common.specs.Stores.{Stored}
 use borrow.Author.Tests.{le-ltb, ne_eqb}
 use Rattle.common.proofs.Loops.{lt_or_ge, drop_step}
 use Rattle.utf8.specs.Utf8.{octets, text, decoded}
@@ -67,15 +68,22 @@ module _ (s : List ℕ) (n : ℕ) (inside : n ≤ length s) where
   pub shown_size : length (map shown (take n s)) ≡ n
   shown_size = length-map (take n s) shown ∙ length-take-le n s inside
 
-  pub shown_step : (i : ℕ) → i < n → drop i (map shown (take n s)) ≡ shown (get_or s i 0) ∷ drop (i + 1) (map shown (take n s))
-  shown_step i h =
-      drop_step (map shown (take n s)) i (shown 0) (omega (arith, shown_size))
-      ∙ ap (λ b. b ∷ drop (i + 1) (map shown (take n s))) (get_or-map shown (take n s) i 0 ∙ ap shown (get_or-take n s i 0 h))
+pub shown_step : (s : List ℕ) (i : ℕ) → i < length s → drop i (map shown s) ≡ shown (get_or s i 0) ∷ drop (i + 1) (map shown s)
+shown_step s i h =
+    drop_step (map shown s) i (shown 0) (omega (arith, length-map s shown))
+    ∙ ap (λ b. b ∷ drop (i + 1) (map shown s)) (get_or-map shown s i 0)
 
-pub spaces_step : (n i : ℕ) → i < n → drop i (replicate {A = ℕ} n 32) ≡ 32 ∷ drop (i + 1) (replicate n 32)
-spaces_step n i h =
-    drop_step (replicate n 32) i 0 (omega (arith, length-replicate {0} {A = ℕ} n 32))
-    ∙ ap (λ (b : ℕ). b ∷ drop (i + 1) (replicate n 32)) (get_or-replicate n i 32 0 h)
+-- ---- a part of the slice that is written over
+
+pub part_stored : {ys l : List ℕ} {at k : ℕ} → length ys ≡ k → at + k ≤ length l → Stored ys at l (at + k) (put_mid at k l ys)
+part_stored {ys} {l} {at} {k} e h =
+    let n : at + length ys ≡ at + k = ap (λ (i : ℕ). at + i) e in
+    record {
+      past = sym n;
+      left =
+          ap (λ (r : List ℕ). take at l ++ (ys ++ r)) (drop-drop k at l ∙ ap (λ (i : ℕ). drop i l) (sym n))
+          ∙ sym (append_assoc (take at l) ys (drop (at + length ys) l)) ∙ sym (sets-eq ys l at (omega arith));
+    }
 
 -- ---- from what is known of the first characters
 

@@ -25,11 +25,9 @@ pub fn put_number(out: &mut [u8], at: usize, n: u64) -> usize
 {
     out[at + 9] = (48 + n % 10) as u8;
     let mut rest = n / 10;
-    let mut i: usize = 9;
-    while 0 < i {
-        i -= 1;
+    for i in (0..9).rev() {
         out[at + i] = digit(rest);
-        rest = rest / 10;
+        rest /= 10;
     }
     at + 10
 }
@@ -49,10 +47,8 @@ fn put_shown(out: &mut [u8], at: usize, s: &[u8], count: usize) -> usize
     requires { (count ≤ length s.now) × (at + count ≤ length out.old) }
     ensures { Stored (map shown_byte (take count s.now)) at out.old result out.new }
 {
-    let mut i: usize = 0;
-    while i < count {
-        out[at + i] = shown(s[i]);
-        i += 1;
+    for (i, b) in s[..count].iter().enumerate() {
+        out[at + i] = shown(*b);
     }
     at + count
 }
@@ -62,11 +58,7 @@ pub fn put_spaces(out: &mut [u8], at: usize, count: usize) -> usize
     requires { at + count ≤ length out.old }
     ensures { Stored (replicate count 32) at out.old result out.new }
 {
-    let mut i: usize = 0;
-    while i < count {
-        out[at + i] = 32;
-        i += 1;
-    }
+    out[at..at + count].fill(32);
     at + count
 }
 

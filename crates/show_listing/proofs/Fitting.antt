@@ -1,5 +1,7 @@
 -- How long a listing can be: one with a line for each of as many documents as a segment has room for.
 -- Assumes nothing.
+use Rattle.segment.specs.Refusals.{numbers}
+use Rattle.std.specs.Prelude.{Err, Ok}
 use mathlib.Core.Path.{◌≡◌, refl, sym, ◌∙◌}
 use mathlib.Core.List.{List, [], ◌∷◌, ◌++◌}
 use Prim.Native.Nat.{ℕ, ◌*◌, ◌≤◌}
@@ -8,12 +10,10 @@ use lib.Dec.{leb}
 use lib.ListN.{length, length-append}
 use borrow.Author.Tests.{leb-true, le-leb}
 use Rattle.segment.specs.declared.refusal.Refusal.{Refusal}
-use Rattle.segment.specs.Results.{Result, ok, refuse}
+use Rattle.segment.specs.Results.{Answer}
 use Rattle.segment.specs.Records.{Entry, Segment}
 use Rattle.segment.proofs.Accepted.{check_gives}
 use Rattle.read_lists.proofs.Taken.{Holds, segment_taken}
-use Rattle.segment.specs.declared.replies.Counted.{Counted}
-use Rattle.segment.specs.declared.replies.Counted.TheVariants.{Count, Refused}
 use Rattle.calls.specs.Listing.{column, name_column, count_line, document_lines, entry_line, entry_lines, refusal_line, text_of, listable}
 use Rattle.calls.specs.Listing.{listing, list_into}
 use Rattle.show_listing.specs.Promise.{ListedInto, ListedWhole}
@@ -25,14 +25,14 @@ use Rattle.show_listing.proofs.Texts.{pair_length, document_lines_length}
 refusal_most : (x : Refusal) → length (refusal_line x) ≤ 61
 unfolding refusal_line
 refusal_most x =
-    let one = column x.kind in
-    let two = column x.which in
-    let three = column x.index in
+    let one = column (numbers x).kind in
+    let two = column (numbers x).which in
+    let three = column (numbers x).index in
     omega (
       arith,
-      column_most x.kind,
-      column_most x.which,
-      column_most x.index,
+      column_most (numbers x).kind,
+      column_most (numbers x).which,
+      column_most (numbers x).index,
       length-append one two,
       length-append (one ++ two) three,
       length-append (one ++ two ++ three) (10 ∷ []),
@@ -55,7 +55,7 @@ unfolding entry_lines
 entries_most [] = omega arith
 entries_most (e ∷ es) = omega (arith, entry_most e, entries_most es, length-append (entry_line e) (entry_lines es))
 
-segment_most : (bytes : List ℕ) (s : Segment) → length bytes ≤ 65536 → Holds bytes s → length (text_of (ok s)) ≤ 687393
+segment_most : (bytes : List ℕ) (s : Segment) → length bytes ≤ 65536 → Holds bytes s → length (text_of (Ok s)) ≤ 687393
 unfolding count_line
 segment_most bytes s h (rising, taken) =
     let documents = document_lines s.documents in
@@ -68,10 +68,10 @@ segment_most bytes s h (rising, taken) =
       length-append (count_line s ++ documents) (entry_lines s.entries),
     )
 
-text_most : (bytes : List ℕ) (r : Result Segment) → listable bytes ≡ r → length (text_of r) ≤ 687393
+text_most : (bytes : List ℕ) (r : Answer Segment) → listable bytes ≡ r → length (text_of r) ≤ 687393
 unfolding listable
-text_most bytes (refuse x) e = omega (arith, refusal_most x)
-text_most bytes (ok s) e =
+text_most bytes (Err x) e = omega (arith, refusal_most x)
+text_most bytes (Ok s) e =
     let (small, f) = check_gives (leb (length bytes) 65536) _ _ e in
     segment_most bytes s (leb-true _ _ small) (segment_taken bytes f)
 
@@ -80,21 +80,21 @@ unfolding listing
 listing_fits bytes = text_most bytes (listable bytes) refl
 
 -- with room for every listing, what the reply says
-module _ {bytes out out' : List ℕ} {r : Counted} (l : ListedInto bytes out r out') (room : 687393 ≤ length out) where
-  all_listed : list_into bytes (length out) ≡ ok (listing bytes)
+module _ {bytes out out' : List ℕ} {r : Answer ℕ} (l : ListedInto bytes out r out') (room : 687393 ≤ length out) where
+  all_listed : list_into bytes (length out) ≡ Ok (listing bytes)
   unfolding list_into
   all_listed = rw (le-leb (length (listing bytes)) (length out) (omega (arith, listing_fits bytes)))
 
-  counted : r ≡ Count (length (listing bytes))
+  counted : r ≡ Ok (length (listing bytes))
   counted = rw all_listed at l.reply
 
-  pub listed_whole : {k : ℕ} → r ≡ Count k → ListedWhole bytes out k out'
+  pub listed_whole : {k : ℕ} → r ≡ Ok k → ListedWhole bytes out k out'
   listed_whole {k} e =
-      let f : Count k ≡ Count (length (listing bytes)) = sym e ∙ counted in
+      let f : ◌≡◌ {A = Answer ℕ} (Ok k) (Ok (length (listing bytes))) = sym e ∙ counted in
       record { reply = cc; left = rw all_listed at l.left }
 
-  pub none_refused : {P : Type 0} {x : Refusal} → r ≡ Refused x → P
+  pub none_refused : {P : Type 0} {x : Refusal} → r ≡ Err x → P
   none_refused {P} {x} e =
-      let f : Refused x ≡ Count (length (listing bytes)) = sym e ∙ counted in
+      let f : Err x ≡ Ok (length (listing bytes)) = sym e ∙ counted in
       let z : ◌≡◌ {A = ℕ} 0 1 = cc in
       absurd (omega arith)

@@ -1,9 +1,10 @@
 -- The index of every refusal that opening gives has 32 bits: it is a field of four bytes, or the index of a document, or 0.
 -- Assumes nothing.
+use Rattle.segment.specs.declared.refusal.Section.{Section}
+use Rattle.std.specs.Prelude.{Err, None, Ok, Option, Some}
 use mathlib.Core.Path.{◌≡◌, refl}
 use mathlib.Core.Bool.{Bool, true, false}
 use mathlib.Core.List.{List}
-use mathlib.Core.Option.{Option, none, some}
 use Prim.Native.Nat.{ℕ, zero, suc, ◌+◌, ◌*◌, ◌^◌, ◌≤◌, ◌<◌}
 use native.Mathlib.Omega.{arith}
 use lib.Dec.{ltb, leb, eqb}
@@ -13,11 +14,11 @@ use Rattle.crc32.specs.Crc32.{crc32_of}
 use Rattle.utf8.specs.Utf8.{utf8}
 use Rattle.common.proofs.Bytes.{Bytes}
 use Rattle.segment.specs.declared.refusal.Refusal.{Refusal}
-use Rattle.segment.specs.Refusals.{header, term_directory, term_bytes, document_metadata, postings, truncated, invalid_magic}
+use Rattle.segment.specs.Refusals.{numbers, header, term_directory, term_bytes, document_metadata, postings, truncated, invalid_magic}
 use Rattle.segment.specs.Refusals.{unsupported_version, unsupported_flags, checksum_mismatch, invalid_layout, doc_id_overflow, invalid_utf8}
 use Rattle.segment.specs.Refusals.{trailing_bytes, section_range_overflow, trailing_document_metadata, non_increasing_document_id}
 use Rattle.segment.specs.Refusals.{directory_length_mismatch, empty_term, non_increasing_term, empty_term_posting_list}
-use Rattle.segment.specs.Results.{Result, ok, refuse, ◌>>=◌, check}
+use Rattle.segment.specs.Results.{Answer, ◌>>=◌, check}
 use Rattle.segment.specs.Records.{number, number_or, field, at_gap, rises}
 use Rattle.segment.specs.Names.{same}
 use Rattle.segment.specs.Metadata.{read_document, read_documents, metadata}
@@ -26,45 +27,45 @@ use Rattle.segment.specs.Opening.{Sections, magic, ranges, sections, section_che
 use Rattle.show_listing.proofs.Widths.{field_small}
 
 -- a refusal's index is small, and P holds of what is given otherwise
-data Small {A : Type 0} (P : A → Type 0) : Result A → Type 0 where
-  gives : {a : A} → P a → Small P (ok a)
-  refuses : {x : Refusal} → x.index < 2 ^ 32 → Small P (refuse x)
+data Small {A : Type 0} (P : A → Type 0) : Answer A → Type 0 where
+  gives : {a : A} → P a → Small P (Ok a)
+  refuses : {x : Refusal} → (numbers x).index < 2 ^ 32 → Small P (Err x)
 
 abbrev Any : {A : Type 0} → A → Type 0
 Any a = Unit {0}
 
-then_small : {A B : Type 0} {P : A → Type 0} {Q : B → Type 0} {r : Result A} {f : A → Result B} → Small P r
+then_small : {A B : Type 0} {P : A → Type 0} {Q : B → Type 0} {r : Answer A} {f : A → Answer B} → Small P r
     → ((a : A) → P a → Small Q (f a))
     → Small Q (r >>= f)
 then_small (gives p) q = q _ p
 then_small (refuses h) q = refuses h
 
-check_small : (t : Bool) (x : Refusal) → x.index < 2 ^ 32 → Small Any (check t x)
+check_small : (t : Bool) (x : Refusal) → (numbers x).index < 2 ^ 32 → Small Any (check t x)
 check_small true x h = gives tt
 check_small false x h = refuses h
 
 -- a refusal that has no index
-plain : (t : Bool) (x : Refusal) → x.index ≡ 0 → Small Any (check t x)
+plain : (t : Bool) (x : Refusal) → (numbers x).index ≡ 0 → Small Any (check t x)
 plain t x e = check_small t x (omega arith)
 
-refused_small : {A : Type 0} {P : A → Type 0} {x : Refusal} → Small P (refuse x) → x.index < 2 ^ 32
+refused_small : {A : Type 0} {P : A → Type 0} {x : Refusal} → Small P (Err x) → (numbers x).index < 2 ^ 32
 refused_small (refuses h) = h
 
 -- ---- parts of a section, numbers
 
-part_small : (section at n : ℕ) (whole : List ℕ) → Small Any (part section at n whole)
+part_small : (section : Section) (at n : ℕ) (whole : List ℕ) → Small Any (part section at n whole)
 unfolding part
 part_small section at n whole =
     then_small (plain (ltb (at + n) (2 ^ 64)) (invalid_layout section_range_overflow) refl) λ _ _.
     then_small (plain (leb (at + n) (length whole)) (truncated section) refl) λ _ _.
     gives tt
 
-number_small : (section place : ℕ) (bytes : List ℕ) → place < 2 ^ 32 → Small Any (number section place bytes)
+number_small : (section : Section) (place : ℕ) (bytes : List ℕ) → place < 2 ^ 32 → Small Any (number section place bytes)
 number_small section place bytes h = by (stored bytes)
   where
     by : (o : Option Leb) → Small Any (number_or section place bytes o)
-    by none = refuses h
-    by (some n) = gives tt
+    by None = refuses h
+    by (Some n) = gives tt
 
 -- ---- metadata
 
@@ -83,13 +84,13 @@ unfolding read_documents
 documents_small zero place previous bytes h = gives tt
 documents_small (suc n) place previous bytes h =
     then_small (document_small place previous bytes (omega arith)) λ d _.
-    then_small (documents_small n (suc place) (some d.got.id) d.rest (omega arith)) λ more _.
+    then_small (documents_small n (suc place) (Some d.got.id) d.rest (omega arith)) λ more _.
     gives tt
 
 metadata_small : (n : ℕ) (bytes : List ℕ) → n < 2 ^ 32 → Small Any (metadata n bytes)
 unfolding metadata
 metadata_small n bytes h =
-    then_small (documents_small n 0 none bytes (omega arith)) λ all _.
+    then_small (documents_small n 0 None bytes (omega arith)) λ all _.
     then_small (plain (eqb (length all.rest) 0) (invalid_layout trailing_document_metadata) refl) λ _ _.
     gives tt
 
@@ -117,14 +118,14 @@ unfolding read_entries
 entries_small zero previous bytes names lists = gives tt
 entries_small (suc n) previous bytes names lists =
     then_small (entry_small previous bytes names lists) λ e _.
-    then_small (entries_small n (some e.name) (drop 32 bytes) names lists) λ more _.
+    then_small (entries_small n (Some e.name) (drop 32 bytes) names lists) λ more _.
     gives tt
 
 directory_small : (n : ℕ) (bytes names lists : List ℕ) → Small Any (directory n bytes names lists)
 unfolding directory
 directory_small n bytes names lists =
     then_small (plain (eqb (length bytes) (32 * n)) (invalid_layout directory_length_mismatch) refl) λ _ _.
-    entries_small n none bytes names lists
+    entries_small n None bytes names lists
 
 -- ---- the segment
 
@@ -139,7 +140,7 @@ contents_small s h =
     gives tt
 
 module _ (bytes : List ℕ) where
-  checksum_small : (section : ℕ) (part : List ℕ) (at : ℕ) → Small Any (section_checksum section part at bytes)
+  checksum_small : (section : Section) (part : List ℕ) (at : ℕ) → Small Any (section_checksum section part at bytes)
   unfolding section_checksum
   checksum_small section part at = plain (eqb (crc32_of part) (field 4 at bytes)) (checksum_mismatch section) refl
 
@@ -179,5 +180,5 @@ module _ (bytes : List ℕ) where
         then_small (checksums_small s) λ _ _.
         contents_small s few
 
-    pub index_small : {x : Refusal} → open_segment bytes ≡ refuse x → x.index < 2 ^ 32
+    pub index_small : {x : Refusal} → open_segment bytes ≡ Err x → (numbers x).index < 2 ^ 32
     index_small e = refused_small (rw e at open_small)

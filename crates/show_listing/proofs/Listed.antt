@@ -1,8 +1,8 @@
 -- The whole text in the lent slice: its length, the reply, and what the slice holds.
 -- Assumes nothing.
+use Rattle.std.specs.Prelude.{Err, None, Ok}
 use mathlib.Core.Path.{◌≡◌, sym, ap, ◌∙◌}
 use mathlib.Core.List.{List, [], ◌∷◌, ◌++◌}
-use mathlib.Core.Option.{none}
 use Prim.Native.Nat.{ℕ, ◌+◌, ◌*◌, ◌≤◌, ◌<◌}
 use native.Mathlib.Nat.{zero-add}
 use native.Mathlib.Omega.{arith}
@@ -13,18 +13,15 @@ use Rattle.common.proofs.Sets.{sets_front}
 use Rattle.common.proofs.Bytes.{Bytes}
 use Rattle.segment.specs.declared.refusal.Refusal.{Refusal}
 use Rattle.read_open.specs.declared.header.Layout.{Layout}
-use Rattle.read_open.specs.declared.header.Opening.{Opening}
-use Rattle.read_open.specs.declared.header.Opening.TheVariants as opening
-use Rattle.segment.specs.Refusals.{no_room, too_large}
-use Rattle.segment.specs.Results.{Result, ok, refuse}
+use Rattle.segment.specs.declared.refusal.Numbers.{Numbers}
+use Rattle.segment.specs.Refusals.{numbers, no_room, too_large}
+use Rattle.segment.specs.Results.{Answer}
 use Rattle.segment.specs.Records.{Segment}
 use Rattle.segment.specs.Opening.{open_segment}
 use Rattle.read_open.specs.Steps.{cut}
 use Rattle.read_cursors.specs.Held.{held_documents}
 use Rattle.read_open.specs.Opened.{IsOpen, Opens, OpenedAs}
 use Rattle.read_cursors.proofs.DocumentsHeld.{held_rise}
-use Rattle.segment.specs.declared.replies.Counted.{Counted}
-use Rattle.segment.specs.declared.replies.Counted.TheVariants.{Count, Refused}
 use Rattle.calls.specs.Replies.{count_of, filled}
 use Rattle.calls.specs.Listing.{column, document_lines, entry_lines, count_line, refusal_line, text_of, listable, listing, list_into}
 use Rattle.show_listing.specs.Steps.{TextListed, SegmentListed, entry_lines_at}
@@ -37,31 +34,34 @@ use Rattle.show_listing.proofs.Texts.{pair_length, document_lines_length, entry_
 -- ---- with room, and without
 
 module _ {text out : List ℕ} {w : ℕ} (is : length text ≡ w) where
-  pub listed : {out' : List ℕ} {n : ℕ} → Stored text 0 out n out' → w ≤ length out → TextListed text out (Count n) out'
+  pub listed : {out' : List ℕ} {n : ℕ} → Stored text 0 out n out' → w ≤ length out → TextListed text out (Ok n) out'
   listed {out'} {n} s h =
       let fits : length text ≤ length out = omega arith in
       let all : n ≡ length text = omega (arith, s.past) in
       record {
-        reply = rw (le-leb (length text) (length out) fits) (ap Count all);
+        reply = rw (le-leb (length text) (length out) fits) (ap Ok all);
         left = rw (le-leb (length text) (length out) fits) (s.left ∙ sets_front out text fits);
       }
 
-  pub no_place : length out < w → TextListed text out (Refused (no_room 1 w)) out
+  pub no_place : length out < w → TextListed text out (Err (no_room 1 w)) out
   no_place h =
       let short : length out < length text = omega arith in
       record { reply = rw (lt-leb (length text) (length out) short, is); left = rw (lt-leb (length text) (length out) short) }
 
 -- ---- a refusal's line
 
-pub refusal_length : (x : Refusal) → x.kind < 10000000000 → x.which < 10000000000 → x.index < 10000000000 → length (refusal_line x) ≡ 31
-unfolding refusal_line
-refusal_length x k w i = simp (length-append, column_length x.kind k, column_length x.which w, column_length x.index i)
+-- n are its numbers, as a call told them
+module _ (x : Refusal) {n : Numbers} (is : n ≡ numbers x) where
+  pub refusal_length : n.kind < 10000000000 → n.which < 10000000000 → n.index < 10000000000 → length (refusal_line x) ≡ 31
+  unfolding refusal_line
+  refusal_length k w i =
+      rw (← is) (simp (length-append, column_length n.kind k, column_length n.which w, column_length n.index i))
 
-pub refusal_stored : (x : Refusal) {out o₁ o₂ o₃ o₄ : List ℕ} {n₁ n₂ n₃ n₄ : ℕ} → Stored (column x.kind) 0 out n₁ o₁
-    → Stored (column x.which) n₁ o₁ n₂ o₂ → Stored (column x.index) n₂ o₂ n₃ o₃ → Stored (10 ∷ []) n₃ o₃ n₄ o₄
-    → Stored (refusal_line x) 0 out n₄ o₄
-unfolding refusal_line
-refusal_stored x k w i e = stored_append (stored_append (stored_append k w) i) e
+  pub refusal_stored : {out o₁ o₂ o₃ o₄ : List ℕ} {n₁ n₂ n₃ n₄ : ℕ} → Stored (column n.kind) 0 out n₁ o₁
+      → Stored (column n.which) n₁ o₁ n₂ o₂ → Stored (column n.index) n₂ o₂ n₃ o₃ → Stored (10 ∷ []) n₃ o₃ n₄ o₄
+      → Stored (refusal_line x) 0 out n₄ o₄
+  unfolding refusal_line
+  refusal_stored k w i e = rw (← is) (stored_append (stored_append (stored_append k w) i) e)
 
 -- ---- an open segment's lines
 
@@ -70,7 +70,7 @@ module _ {bytes : List ℕ} {l : Layout} {s : Segment} (o : IsOpen bytes l s) wh
   counts = column l.documents ++ column l.terms ++ 10 ∷ []
 
   abbrev documents : List ℕ
-  documents = document_lines (held_documents l.documents none (cut bytes l).metadata)
+  documents = document_lines (held_documents l.documents None (cut bytes l).metadata)
 
   abbrev terms : List ℕ
   terms = entry_lines_at (cut bytes l).directory (cut bytes l).names l.terms 0
@@ -81,34 +81,34 @@ module _ {bytes : List ℕ} {l : Layout} {s : Segment} (o : IsOpen bytes l s) wh
       (λ i h. rw (zero-add i) (o.entry i (omega (arith, o.term_count))))
       ∙ ap (λ n. entry_lines_at (cut bytes l).directory (cut bytes l).names n 0) o.term_count
 
-  text : text_of (ok s) ≡ counts ++ documents ++ terms
+  text : text_of (Ok s) ≡ counts ++ documents ++ terms
   unfolding count_line
   text = rw (terms_are, o.document_count, o.term_count, o.documents)
 
-  pub held_length : length (held_documents l.documents none (cut bytes l).metadata) ≡ l.documents
+  pub held_length : length (held_documents l.documents None (cut bytes l).metadata) ≡ l.documents
   held_length = ap length o.documents ∙ o.document_count
 
   pub text_length : l.documents < 10000000000 → l.terms < 10000000000
-      → length (text_of (ok s)) ≡ 21 + l.documents * 21 + length terms
+      → length (text_of (Ok s)) ≡ 21 + l.documents * 21 + length terms
   text_length d t =
-      let held = held_documents l.documents none (cut bytes l).metadata in
+      let held = held_documents l.documents None (cut bytes l).metadata in
       let one = pair_length l.documents l.terms d t in
-      let two = document_lines_length 0 held (held_rise l.documents none (cut bytes l).metadata) in
+      let two = document_lines_length 0 held (held_rise l.documents None (cut bytes l).metadata) in
       omega (arith, ap length text, length-append (counts ++ documents) terms, length-append counts documents, held_length)
 
   pub segment_stored : {out o₁ o₂ o₃ : List ℕ} {n₁ n₂ n₃ : ℕ} → Stored counts 0 out n₁ o₁ → Stored documents n₁ o₁ n₂ o₂
       → Stored terms n₂ o₂ n₃ o₃
-      → Stored (text_of (ok s)) 0 out n₃ o₃
+      → Stored (text_of (Ok s)) 0 out n₃ o₃
   segment_stored a b c = rw text (stored_append (stored_append a b) c)
 
 -- ---- the listing
 
-listed_into : {bytes text out out' : List ℕ} {r : Counted} → listing bytes ≡ text → TextListed text out r out'
+listed_into : {bytes text out out' : List ℕ} {r : Answer ℕ} → listing bytes ≡ text → TextListed text out r out'
     → ListedInto bytes out r out'
 unfolding list_into
 listed_into e t = record { reply = rw e t.reply; left = rw e t.left }
 
-pub listed_large : (bytes : List ℕ) {out out' : List ℕ} {q : Counted} → 65536 < length bytes
+pub listed_large : (bytes : List ℕ) {out out' : List ℕ} {q : Answer ℕ} → 65536 < length bytes
     → TextListed (refusal_line too_large) out q out'
     → ListedInto bytes out q out'
 unfolding listing listable
@@ -119,29 +119,29 @@ unfolding listing listable
 opened_text bytes h = rw (le-leb (length bytes) 65536 h)
 
 -- from what opening answered
-module _ (bytes : List ℕ) {r : Opening} (o : Opens bytes r) where
-  module _ {l : Layout} (e : r ≡ opening.Layout l) where
+module _ (bytes : List ℕ) {r : Answer Layout} (o : Opens bytes r) where
+  module _ {l : Layout} (e : r ≡ Ok l) where
     pub layout_listable : OpenedAs bytes l
     layout_listable = let (s, q, is) = rw e at o in (s, is)
 
-    pub listed_layout : {out out' : List ℕ} {q : Counted} → length bytes ≤ 65536 → SegmentListed bytes l out q out'
+    pub listed_layout : {out out' : List ℕ} {q : Answer ℕ} → length bytes ≤ 65536 → SegmentListed bytes l out q out'
         → ListedInto bytes out q out'
     listed_layout h t =
         let (s, q, is) = rw e at o in
         listed_into (opened_text bytes h ∙ ap text_of q) (t s is)
 
-  module _ {x : Refusal} (e : r ≡ opening.Refused x) where
-    pub refused_small : Bytes bytes → x.index < 10000000000
+  module _ {x : Refusal} (e : r ≡ Err x) where
+    pub refused_small : Bytes bytes → (numbers x).index < 10000000000
     refused_small b = omega (arith, index_small bytes b (rw e at o))
 
-    pub listed_refused : {out out' : List ℕ} {q : Counted} → length bytes ≤ 65536 → TextListed (refusal_line x) out q out'
+    pub listed_refused : {out out' : List ℕ} {q : Answer ℕ} → length bytes ≤ 65536 → TextListed (refusal_line x) out q out'
         → ListedInto bytes out q out'
     listed_refused h t = listed_into (opened_text bytes h ∙ ap text_of (rw e at o)) t
 
 -- the text lies in the slice
-pub listed_fits : {bytes out out' : List ℕ} {r : Counted} {k : ℕ} → ListedInto bytes out r out' → r ≡ Count k → k ≤ length out'
+pub listed_fits : {bytes out out' : List ℕ} {r : Answer ℕ} {k : ℕ} → ListedInto bytes out r out' → r ≡ Ok k → k ≤ length out'
 listed_fits {bytes} {out} {out'} {k = k} l e = by (list_into bytes (length out)) (sym e ∙ l.reply) l.left
   where
-    by : (q : Result (List ℕ)) → Count k ≡ count_of q → out' ≡ filled (λ text. text) q out → k ≤ length out'
-    by (ok text) f g = let h : k ≡ length text = cc in omega (arith, ap length g, length-append text (drop (length text) out))
-    by (refuse x) f g = let z : ◌≡◌ {A = ℕ} 0 1 = cc in absurd (omega arith)
+    by : (q : Answer (List ℕ)) → Ok k ≡ count_of q → out' ≡ filled (λ text. text) q out → k ≤ length out'
+    by (Ok text) f g = let h : k ≡ length text = cc in omega (arith, ap length g, length-append text (drop (length text) out))
+    by (Err x) f g = let z : ◌≡◌ {A = ℕ} 0 1 = cc in absurd (omega arith)

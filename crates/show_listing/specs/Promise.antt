@@ -1,10 +1,10 @@
 -- What the listing promises: the reply, and the lent slice afterwards.
+use Rattle.segment.specs.Results.{Answer}
 use Rattle.std.specs.Prelude.{ℕ, ◌≡◌, List, length}
-use Rattle.segment.specs.declared.replies.Counted.{Counted}
 use Rattle.calls.specs.Replies.{fronted, count_of, filled}
 use Rattle.calls.specs.Listing.{listing, list_into}
 
-pub record ListedInto (bytes out : List ℕ) (r : Counted) (out' : List ℕ) : Type 0 where
+pub record ListedInto (bytes out : List ℕ) (r : Answer ℕ) (out' : List ℕ) : Type 0 where
   pub reply : r ≡ count_of (list_into bytes (length out))
   pub left : out' ≡ filled (λ text. text) (list_into bytes (length out)) out
 

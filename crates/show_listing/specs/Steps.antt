@@ -1,13 +1,12 @@
 -- What the code over the lent slice computes.
-use Rattle.std.specs.Prelude.{ℕ, zero, suc, ◌+◌, ◌*◌, ◌≤◌, ◌<◌, ◌≡◌, List, [], ◌++◌, length}
+use Rattle.std.specs.Prelude.{Ok, ℕ, zero, suc, ◌+◌, ◌*◌, ◌≤◌, ◌<◌, ◌≡◌, List, [], ◌++◌, length}
 use Rattle.segment.specs.declared.refusal.Refusal.{Refusal}
 use Rattle.read_open.specs.declared.directory.NameRange.{NameRange}
 use Rattle.read_open.specs.declared.header.Layout.{Layout}
-use Rattle.segment.specs.Results.{Result, ok, roomy, ◌>>=◌}
+use Rattle.segment.specs.Results.{Answer, roomy, ◌>>=◌}
 use Rattle.segment.specs.Records.{Segment, field, entry_size}
 use Rattle.read_open.specs.Steps.{entry_at, EntryInside}
 use Rattle.read_open.specs.Opened.{IsOpen}
-use Rattle.segment.specs.declared.replies.Counted.{Counted}
 use Rattle.calls.specs.Replies.{count_of, filled}
 use Rattle.calls.specs.Listing.{entry_line, refusal_line, text_of}
 
@@ -35,15 +34,15 @@ pub record EntriesRoom (dir names : List ℕ) (terms : ℕ) (out : List ℕ) (at
   pub inside : EntriesInside dir names terms
   pub room : at + length (entry_lines_at dir names terms 0) ≤ length out
 
-abbrev pub text_into : (text : List ℕ) (room : ℕ) → Result (List ℕ)
-text_into text room = roomy 1 (length text) room >>= λ _. ok text
+abbrev pub text_into : (text : List ℕ) (room : ℕ) → Answer (List ℕ)
+text_into text room = roomy 1 (length text) room >>= λ _. Ok text
 
-pub record TextListed (text out : List ℕ) (r : Counted) (out' : List ℕ) : Type 0 where
+pub record TextListed (text out : List ℕ) (r : Answer ℕ) (out' : List ℕ) : Type 0 where
   pub reply : r ≡ count_of (text_into text (length out))
   pub left : out' ≡ filled (λ t. t) (text_into text (length out)) out
 
-abbrev pub RefusalListed : Refusal → (out : List ℕ) → Counted → List ℕ → Type 0
+abbrev pub RefusalListed : Refusal → (out : List ℕ) → Answer ℕ → List ℕ → Type 0
 RefusalListed x out r out' = TextListed (refusal_line x) out r out'
 
-abbrev pub SegmentListed : (bytes : List ℕ) → Layout → (out : List ℕ) → Counted → List ℕ → Type 0
-SegmentListed bytes l out r out' = (s : Segment) → IsOpen bytes l s → TextListed (text_of (ok s)) out r out'
+abbrev pub SegmentListed : (bytes : List ℕ) → Layout → (out : List ℕ) → Answer ℕ → List ℕ → Type 0
+SegmentListed bytes l out r out' = (s : Segment) → IsOpen bytes l s → TextListed (text_of (Ok s)) out r out'

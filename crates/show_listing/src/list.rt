@@ -1,8 +1,8 @@
 // The text of a listing.
-ghost use Rattle.std.specs.Prelude.{◌≡◌, [], ◌∷◌, ◌++◌, ◌+◌, ◌*◌, ◌^◌, ◌≤◌, ◌<◌, length};
-ghost use Rattle.std.proofs.Math.Option.{none};
+ghost use Rattle.std.specs.Prelude.{None, ◌≡◌, [], ◌∷◌, ◌++◌, ◌+◌, ◌*◌, ◌^◌, ◌≤◌, ◌<◌, length};
 ghost use Rattle.common.specs.Stores.{Stored};
 ghost use Rattle.segment.specs.Records.{entry_size};
+ghost use Rattle.segment.specs.Refusals.{numbers};
 ghost use Rattle.read_cursors.specs.Held.{held_documents};
 ghost use Rattle.read_open.specs.Steps.{entry_at, EntryInside};
 ghost use Rattle.calls.specs.Listing.{column, document_lines, entry_line};
@@ -14,11 +14,10 @@ ghost use Rattle.show_listing.specs.Promise.{ListedInto};
 use common::widths::long;
 use read_cursors::documents::Documents;
 use read_open::directory::NameRange;
-use read_open::header::{Layout, Opening};
+use read_open::header::Layout;
 use read_open::open_segment::open_layout;
 use segment::fixed::{ENTRY_SIZE, HEADER_SIZE, read_u32_at};
-use segment::refusal::{Refusal, no_room, too_large};
-use segment::replies::Counted;
+use segment::refusal::Refusal;
 use show_columns::put::{name_len, put_name, put_number};
 
 // The end of a line.
@@ -42,14 +41,14 @@ fn put_pair(out: &mut [u8], at: usize, a: u32, b: u32) -> usize
 
 // A line for each document.
 fn put_documents(meta: &[u8], count: u32, out: &mut [u8], at: usize) -> usize
-    requires { at + 21 * length (held_documents count none meta.now) ≤ length out.old }
-    ensures { Stored (document_lines (held_documents count none meta.now)) at out.old result out.new }
+    requires { at + 21 * length (held_documents count None meta.now) ≤ length out.old }
+    ensures { Stored (document_lines (held_documents count None meta.now)) at out.old result out.new }
 {
     let mut c = Documents::start(meta, count);
     let mut next = at;
+    // A cursor holds no borrow and is advanced with the bytes, so it is no iterator.
     while 0 < c.remaining {
-        let id = c.id;
-        next = put_pair(out, next, id.0, c.len);
+        next = put_pair(out, next, c.id.0, c.len);
         c = c.advance(meta);
     }
     next
@@ -66,10 +65,7 @@ pub fn entry_name(dir: &[u8], i: usize) -> NameRange
     let place = i * ENTRY_SIZE;
     let start = long(read_u32_at(dir, place));
     let end = start + long(read_u32_at(dir, place + 4));
-    NameRange {
-        start: start,
-        end: end,
-    }
+    NameRange { start, end }
 }
 
 // How many bytes a term's line has.
@@ -78,9 +74,7 @@ fn entry_len(dir: &[u8], names: &[u8], i: usize) -> usize
     ensures { result ≡ length (entry_line (entry_at dir.now names.now [] i)) }
 {
     let name = entry_name(dir, i);
-    let start = name.start;
-    let end = name.end;
-    name_len(&names[start..end], NAME_WIDTH) + 11
+    name_len(&names[name.start..name.end], NAME_WIDTH) + 11
 }
 
 // How many bytes the terms' lines have.
@@ -89,10 +83,8 @@ fn entries_len(dir: &[u8], names: &[u8], terms: usize) -> usize
     ensures { result ≡ length (entry_lines_at dir.now names.now terms 0) }
 {
     let mut size: usize = 0;
-    let mut i: usize = 0;
-    while i < terms {
+    for i in 0..terms {
         size += entry_len(dir, names, i);
-        i += 1;
     }
     size
 }
@@ -103,9 +95,7 @@ fn put_entry(dir: &[u8], names: &[u8], i: usize, out: &mut [u8], at: usize) -> u
     ensures { Stored (entry_line (entry_at dir.now names.now [] i)) at out.old result out.new }
 {
     let name = entry_name(dir, i);
-    let start = name.start;
-    let end = name.end;
-    let past = put_name(out, at, &names[start..end], NAME_WIDTH);
+    let past = put_name(out, at, &names[name.start..name.end], NAME_WIDTH);
     let df = read_u32_at(dir, i * ENTRY_SIZE + 24);
     let last = put_number(out, past, df as u64);
     put_end(out, last)
@@ -117,64 +107,56 @@ fn put_entries(dir: &[u8], names: &[u8], terms: usize, out: &mut [u8], at: usize
     ensures { Stored (entry_lines_at dir.now names.now terms 0) at out.old result out.new }
 {
     let mut next = at;
-    let mut i: usize = 0;
-    while i < terms {
+    for i in 0..terms {
         next = put_entry(dir, names, i, out, next);
-        i += 1;
     }
     next
 }
 
 // A refusal's line.
-pub fn list_refusal(x: Refusal, out: &mut [u8]) -> Counted
-    requires { x.index < 10000000000 }
+pub fn list_refusal(x: Refusal, out: &mut [u8]) -> Result<usize, Refusal>
+    requires { (numbers x).index < 10000000000 }
     ensures { RefusalListed x out.old result out.new }
 {
+    let n = x.numbers();
     if out.len() < 31 {
-        return Counted::Refused(no_room(1, 31));
+        return Err(Refusal::NoRoom(1, 31));
     }
-    let next = put_number(out, 0, x.kind as u64);
-    let next = put_number(out, next, x.which as u64);
-    let end = put_number(out, next, x.index);
-    Counted::Count(put_end(out, end))
+    let next = put_number(out, 0, n.kind as u64);
+    let next = put_number(out, next, n.which as u64);
+    let end = put_number(out, next, n.index);
+    Ok(put_end(out, end))
 }
 
 // An open segment's lines.
-fn list_segment(bytes: &[u8], at: Layout, out: &mut [u8]) -> Counted
+fn list_segment(bytes: &[u8], at: Layout, out: &mut [u8]) -> Result<usize, Refusal>
     requires { OpenedAs bytes.now at }
     ensures { SegmentListed bytes.now at out.old result out.new }
 {
     let documents = long(at.documents);
     let terms = long(at.terms);
-    let names = at.names;
-    let metadata = at.metadata;
-    let lists = at.lists;
+    let dir = &bytes[HEADER_SIZE..at.names];
+    let names = &bytes[at.names..at.metadata];
     // Measured before anything is stored: 13 has the whole text's length, and leaves the slice as it was.
-    let lines = entries_len(&bytes[HEADER_SIZE..names], &bytes[names..metadata], terms);
+    let lines = entries_len(dir, names, terms);
     let needed = 21 + documents * 21 + lines;
     if out.len() < needed {
-        return Counted::Refused(no_room(1, needed));
+        return Err(Refusal::NoRoom(1, needed));
     }
     let next = put_pair(out, 0, at.documents, at.terms);
-    let next = put_documents(&bytes[metadata..lists], at.documents, out, next);
-    Counted::Count(put_entries(
-        &bytes[HEADER_SIZE..names],
-        &bytes[names..metadata],
-        terms,
-        out,
-        next,
-    ))
+    let next = put_documents(&bytes[at.metadata..at.lists], at.documents, out, next);
+    Ok(put_entries(dir, names, terms, out, next))
 }
 
 // The listing of a segment of at most 65,536 bytes: the text at the slice's front and its length, or 13.
-pub fn listing(bytes: &[u8], out: &mut [u8]) -> Counted
+pub fn listing(bytes: &[u8], out: &mut [u8]) -> Result<usize, Refusal>
     ensures { ListedInto bytes.now out.old result out.new }
 {
     if 65536 < bytes.len() {
-        return list_refusal(too_large(), out);
+        return list_refusal(Refusal::TooLarge, out);
     }
     match open_layout(bytes) {
-        Opening::Layout(at) => list_segment(bytes, at, out),
-        Opening::Refused(x) => list_refusal(x, out),
+        Ok(at) => list_segment(bytes, at, out),
+        Err(x) => list_refusal(x, out),
     }
 }

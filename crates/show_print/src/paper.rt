@@ -1,10 +1,9 @@
 // A bar on paper, written out.
-ghost use Rattle.std.specs.Prelude.{ℕ, IfOk, OnErr};
-ghost use Rattle.segment.specs.declared.replies.Counted.TheVariants.{Count};
+ghost use Rattle.std.specs.Prelude.{Ok, ℕ, IfOk, OnErr};
 ghost use Rattle.show_sheet.specs.Promise.{SheetAnswered};
 
 use segment::ids::DocId;
-use segment::replies::Counted;
+use segment::refusal::Refusal;
 use show_sheet::sheet::bar_sheet;
 use std::io;
 use std::io::Write;
@@ -16,12 +15,12 @@ pub fn write_sheet<W: Write>(
     bytes: &[u8],
     id: DocId,
     out: &mut [u8],
-) -> io::Result<Counted>
+) -> io::Result<Result<usize, Refusal>>
     ensures ok { IfOk result (λ r. SheetAnswered bytes.now id.0 out.old r out.new) }
-    ensures err { OnErr result ((k : ℕ) × SheetAnswered bytes.now id.0 out.old (Count k) out.new) }
+    ensures err { OnErr result ((k : ℕ) × SheetAnswered bytes.now id.0 out.old (Ok k) out.new) }
 {
     let r = bar_sheet(bytes, id, out);
-    if let Counted::Count(k) = r {
+    if let Ok(k) = r {
         to.write_all(&out[..k])?;
     }
     Ok(r)

@@ -1,15 +1,14 @@
 -- An entry's line, from what the decoding of its list and a cursor in it answered.
 -- Assumes nothing.
+use Rattle.std.specs.Prelude.{Err, None, Ok}
 use mathlib.Core.Path.{◌≡◌, refl, sym, ap, ◌∙◌}
 use mathlib.Core.List.{List, [], ◌∷◌}
-use mathlib.Core.Option.{none}
 use Prim.Native.Nat.{ℕ, ◌+◌, ◌≤◌, ◌<◌}
 use native.Mathlib.Omega.{arith}
 use lib.ListN.{length, drop}
 use Rattle.common.specs.Stores.{Stored}
 use Rattle.segment.specs.declared.refusal.Refusal.{Refusal}
-use Rattle.segment.specs.declared.replies.Counted.TheVariants as counted
-use Rattle.segment.specs.Results.{Result, ok, refuse}
+use Rattle.segment.specs.Results.{Answer}
 use Rattle.segment.specs.Records.{Document, Posting}
 use Rattle.segment.specs.Postings.{decode}
 use Rattle.segment.proofs.Binds.{ok_same, bind_gives}
@@ -17,7 +16,6 @@ use Rattle.read_cursors.specs.declared.postings.Postings.{Postings}
 use Rattle.read_cursors.specs.Held.{held_positions, held_postings}
 use Rattle.read_cursors.specs.Steps.{postings_from, SoughtPosting}
 use Rattle.read_cursors.proofs.PostingReads.{PostingsRead}
-use Rattle.read_lists.specs.declared.lists.Tally.TheVariants as tally
 use Rattle.read_lists.specs.Steps.{positions_in, tallied_in}
 use Rattle.read_open.specs.declared.header.Layout.{Layout}
 use Rattle.read_open.specs.Steps.{cut, name_at}
@@ -57,32 +55,32 @@ module _ (bytes : List ℕ) (l : Layout) (bar : Bar) (i : ℕ) (paper : Drawable
   abbrev name : List ℕ
   name = name_at (cut bytes l).directory (cut bytes l).names i
 
-  abbrev line : Result (List ℕ)
+  abbrev line : Answer (List ℕ)
   line = line_in documents bar (entry_in bytes l i)
 
   -- of a list that was decoded
-  line_is : {ps : List Posting} → decode documents (entry_in bytes l i) ≡ ok ps
-      → line ≡ ok (line_of bar.len name (positions_of ps bar.id.0))
+  line_is : {ps : List Posting} → decode documents (entry_in bytes l i) ≡ Ok ps
+      → line ≡ Ok (line_of bar.len name (positions_of ps bar.id.0))
   unfolding line_in
   line_is d = rw d
 
-  few : {ps : List Posting} → decode documents (entry_in bytes l i) ≡ ok ps → length (positions_of ps bar.id.0) ≤ 64
+  few : {ps : List Posting} → decode documents (entry_in bytes l i) ≡ Ok ps → length (positions_of ps bar.id.0) ≤ 64
   few d = omega (arith, own_few documents bar.id.0 bar.len paper.known (entry_in bytes l i) d, paper.short)
 
-  line_decodes : Decoded line → (ps : List Posting) × (decode documents (entry_in bytes l i) ≡ ok ps)
+  line_decodes : Decoded line → (ps : List Posting) × (decode documents (entry_in bytes l i) ≡ Ok ps)
   unfolding line_in
   line_decodes (text, e) = let (ps, d, f) = bind_gives (decode documents (entry_in bytes l i)) _ e in (ps, d)
 
-  pub measured_most : {k : ℕ} → counted.Count k ≡ count_of line → k ≤ 117
+  pub measured_most : {k : ℕ} → Ok k ≡ count_of line → k ≤ 117
   measured_most e = by line refl e
     where
-      by : (r : Result (List ℕ)) → line ≡ r → {k : ℕ} → counted.Count k ≡ count_of r → k ≤ 117
-      by (ok text) is {k} e =
+      by : (r : Answer (List ℕ)) → line ≡ r → {k : ℕ} → Ok k ≡ count_of r → k ≤ 117
+      by (Ok text) is {k} e =
           let (ps, d) = line_decodes (text, is) in
           let many : k ≡ length text = cc in
           let same : line_of bar.len name (positions_of ps bar.id.0) ≡ text = ok_same (sym (line_is d) ∙ is) in
           omega (arith, ap length same, line_most bar.len name (positions_of ps bar.id.0) (omega (arith, few d)))
-      by (refuse x) is e = let z : ◌≡◌ {A = ℕ} 0 1 = cc in absurd (omega arith)
+      by (Err x) is e = let z : ◌≡◌ {A = ℕ} 0 1 = cc in absurd (omega arith)
 
   -- where its list lies
   module _ (below : i < l.terms) {t : TermList} (listed : EntryList bytes l i t) where
@@ -93,19 +91,19 @@ module _ (bytes : List ℕ) (l : Layout) (bar : Bar) (i : ℕ) (paper : Drawable
 
     -- ---- measured
 
-    pub line_refused : {x : Refusal} → tally.Refused x ≡ tallied_in bar.id.0 (decode documents (list_entry bytes t))
-        → counted.Refused x ≡ count_of line
+    pub line_refused : {x : Refusal} → Err x ≡ tallied_in bar.id.0 (decode documents (list_entry bytes t))
+        → Err x ≡ count_of line
     unfolding line_in
     line_refused e = rw (decode_is, tally_refused (positions_in bar.id.0) (decode documents (list_entry bytes t)) e)
 
-    module _ {n : ℕ} (told : tally.Positions n ≡ tallied_in bar.id.0 (decode documents (list_entry bytes t))) where
-      pub line_silent : n ≡ 0 → counted.Count 0 ≡ count_of line
+    module _ {n : ℕ} (told : Ok n ≡ tallied_in bar.id.0 (decode documents (list_entry bytes t))) where
+      pub line_silent : n ≡ 0 → Ok 0 ≡ count_of line
       line_silent z =
           let (ps, d, many) = told_in bar.id.0 documents (list_entry bytes t) told in
           rw (line_is (decode_is ∙ d), line_none bar.len name (positions_of ps bar.id.0) (many ∙ z))
 
       pub line_measured : (n ≡ 0 → ⊥) → {part : List ℕ} → part ≡ name → {k : ℕ} → k ≡ length (name_column 12 part)
-          → counted.Count (k + 69) ≡ count_of line
+          → Ok (k + 69) ≡ count_of line
       line_measured some same {k} wide =
           let (ps, d, many) = told_in bar.id.0 documents (list_entry bytes t) told in
           let hits = positions_of ps bar.id.0 in
@@ -116,20 +114,20 @@ module _ (bytes : List ℕ) (l : Layout) (bar : Bar) (i : ℕ) (paper : Drawable
             wide,
             ap (λ q. length (name_column 12 q)) same,
           ) in
-          rw (line_is (decode_is ∙ d), line_some bar.len name hits (omega (arith, many, some))) (ap counted.Count (sym size))
+          rw (line_is (decode_is ∙ d), line_some bar.len name hits (omega (arith, many, some))) (ap Ok (sym size))
 
     -- ---- drawn
 
     module _ (decoded : Decoded line) (first here : Postings)
-        (starts : postings_from bytes first ≡ held_postings t.df none (drop t.start bytes))
+        (starts : postings_from bytes first ≡ held_postings t.df None (drop t.start bytes))
         (sought : SoughtPosting bytes bar.id.0 first here) where
       abbrev found : List Posting
       found = (line_decodes decoded).0
 
       abbrev hits : List ℕ
-      hits = held_positions here.count none (drop here.at bytes)
+      hits = held_positions here.count None (drop here.at bytes)
 
-      read : PostingsRead t.df none (drop t.start bytes) found
+      read : PostingsRead t.df None (drop t.start bytes) found
       read = decoded_walked bytes t documents (sym decode_is ∙ (line_decodes decoded).1)
 
       text_is : text_in line ≡ line_of bar.len name (positions_of found bar.id.0)

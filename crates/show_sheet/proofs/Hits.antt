@@ -1,9 +1,9 @@
 -- A posting that was sought in a decoded list has a hit.
 -- Assumes nothing.
+use Rattle.std.specs.Prelude.{None, Option, Some}
 use mathlib.Core.Path.{◌≡◌}
 use mathlib.Core.Bool.{Bool, true, false, cond}
 use mathlib.Core.List.{List, [], ◌∷◌}
-use mathlib.Core.Option.{Option, none, some}
 use Prim.Native.Nat.{ℕ, zero, suc, ◌<◌}
 use native.Mathlib.Omega.{arith}
 use lib.Dec.{ltb}
@@ -17,7 +17,7 @@ Fulls (s ∷ ss) = Full s × Fulls ss
 
 fulls : (previous : Option ℕ) (ss : List PostingAt) → AllFull previous ss → Fulls ss
 fulls previous [] f = tt
-fulls previous (s ∷ ss) (r, f, fs) = (f, fulls (some s.doc) ss fs)
+fulls previous (s ∷ ss) (r, f, fs) = (f, fulls (Some s.doc) ss fs)
 
 fulls_sought : (id : ℕ) (ss : List PostingAt) → Fulls ss → Fulls (seek_in (λ (s : PostingAt). s.doc) id ss)
 fulls_sought id [] f = tt
@@ -34,9 +34,9 @@ first_full bytes zero at count doc h f = absurd (omega arith)
 first_full bytes (suc n) at count doc h f = f.0.has_positions
 
 -- the posting that was sought has a hit
-pub sought_some : (bytes : List ℕ) (id : ℕ) {ss : List PostingAt} → AllFull none ss → (first here : Postings)
+pub sought_some : (bytes : List ℕ) (id : ℕ) {ss : List PostingAt} → AllFull None ss → (first here : Postings)
     → postings_from bytes first ≡ ss → SoughtPosting bytes id first here → 0 < here.remaining
     → 0 < here.count
 sought_some bytes id {ss} full first here starts sought h =
     first_full bytes here.remaining here.at here.count here.doc.0 h
-    (rw (sought.holds, starts) (fulls_sought id ss (fulls none ss full)))
+    (rw (sought.holds, starts) (fulls_sought id ss (fulls None ss full)))

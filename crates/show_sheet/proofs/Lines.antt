@@ -1,5 +1,6 @@
 -- The lines of a sheet one entry after another: measured, and stored.
 -- Assumes nothing.
+use Rattle.std.specs.Prelude.{Err, Ok}
 use mathlib.Core.Path.{◌≡◌, refl, sym, ap, ◌∙◌}
 use mathlib.Core.List.{List, [], ◌∷◌, ◌++◌}
 use Prim.Native.Nat.{ℕ, suc, ◌+◌, ◌-◌, ◌≤◌, ◌<◌}
@@ -9,11 +10,9 @@ use native.Mathlib.Omega.{arith}
 use lib.ListN.{length, get_or, length-append}
 use Rattle.common.specs.Stores.{Stored}
 use Rattle.common.proofs.Loops.{left_suc, left_none}
-use Rattle.common.proofs.Stores.{ToStore, ToStoreParts, to_start, to_room, to_next, to_end}
+use Rattle.common.proofs.Stores.{ToStore, ToStoreParts, to_room, to_next, to_end}
 use Rattle.segment.specs.declared.refusal.Refusal.{Refusal}
-use Rattle.segment.specs.declared.replies.Counted.{Counted}
-use Rattle.segment.specs.declared.replies.Counted.TheVariants as counted
-use Rattle.segment.specs.Results.{Result, ok, refuse, ◌>>=◌}
+use Rattle.segment.specs.Results.{Answer, ◌>>=◌}
 use Rattle.segment.specs.Records.{Posting, Term, Entry}
 use Rattle.segment.specs.Postings.{decode}
 use Rattle.segment.specs.Contents.{decode_all}
@@ -27,23 +26,23 @@ use Rattle.show_sheet.specs.Steps.{documents_in, entry_in, line_in, lines_in, te
 
 -- ---- what the directory's lists decode to, drawn, is the entries' lines
 
-abbrev pub drawn : Bar → Result (List Term) → Result (List ℕ)
-drawn bar r = r >>= λ ts. ok (sound_lines bar.id.0 bar.len ts)
+abbrev pub drawn : Bar → Answer (List Term) → Answer (List ℕ)
+drawn bar r = r >>= λ ts. Ok (sound_lines bar.id.0 bar.len ts)
 
 -- an entry's line and the lines after it
-abbrev behind : Result (List ℕ) → Result (List ℕ) → Result (List ℕ)
-behind line lines = line >>= λ a. lines >>= λ more. ok (a ++ more)
+abbrev behind : Answer (List ℕ) → Answer (List ℕ) → Answer (List ℕ)
+behind line lines = line >>= λ a. lines >>= λ more. Ok (a ++ more)
 
 module _ (bytes : List ℕ) (l : Layout) (bar : Bar) where
-  first_drawn : (e : Entry) (r : Result (List Posting)) (more : Result (List Term)) {lines : Result (List ℕ)}
+  first_drawn : (e : Entry) (r : Answer (List Posting)) (more : Answer (List Term)) {lines : Answer (List ℕ)}
       → drawn bar more ≡ lines
       → r ≡ decode (documents_in bytes l) e
-      → drawn bar (r >>= λ ps. more >>= λ ts. ok (record { name = e.name; postings = ps } ∷ ts))
+      → drawn bar (r >>= λ ps. more >>= λ ts. Ok (record { name = e.name; postings = ps } ∷ ts))
       ≡ behind (line_in (documents_in bytes l) bar e) lines
   unfolding line_in sound_lines
-  first_drawn e (ok ps) (ok ts) is d = rw (← d, ← is)
-  first_drawn e (ok ps) (refuse x) is d = rw (← d, ← is)
-  first_drawn e (refuse x) more is d = rw (← d)
+  first_drawn e (Ok ps) (Ok ts) is d = rw (← d, ← is)
+  first_drawn e (Ok ps) (Err x) is d = rw (← d, ← is)
+  first_drawn e (Err x) more is d = rw (← d)
 
   pub entries_drawn : (es : List Entry) (k : ℕ) → ((i : ℕ) → i < length es → get_or es i no_entry ≡ entry_in bytes l (k + i))
       → drawn bar (decode_all (documents_in bytes l) es) ≡ lines_in bytes l bar (length es) k
@@ -64,91 +63,81 @@ module _ (bytes : List ℕ) (l : Layout) (bar : Bar) where
   unfolding lines_in
   lines_next n i h = rw (left_suc n i h, add-one i)
 
-  lines_end : (n i : ℕ) → n ≤ i → lines_in bytes l bar (n - i) i ≡ ok []
+  lines_end : (n i : ℕ) → n ≤ i → lines_in bytes l bar (n - i) i ≡ Ok []
   unfolding lines_in
   lines_end n i h = rw (left_none n i h)
 
 -- ---- measured
 
 -- so many bytes and those of the lines that are left
-abbrev pub more : ℕ → Result (List ℕ) → Counted
-more size (ok text) = counted.Count (size + length text)
-more size (refuse x) = counted.Refused x
+abbrev pub more : ℕ → Answer (List ℕ) → Answer ℕ
+more size (Ok text) = Ok (size + length text)
+more size (Err x) = Err x
 
-behind_more : (size : ℕ) (line lines : Result (List ℕ)) {k : ℕ} → counted.Count k ≡ count_of line
+behind_more : (size : ℕ) (line lines : Answer (List ℕ)) {k : ℕ} → Ok k ≡ count_of line
     → more size (behind line lines) ≡ more (size + k) lines
-behind_more size (ok a) (ok b) {k} e =
+behind_more size (Ok a) (Ok b) {k} e =
     let many : k ≡ length a = cc in
     let sum : size + length (a ++ b) ≡ size + k + length b = omega (arith, length-append a b) in
-    ap counted.Count sum
-behind_more size (ok a) (refuse x) e = refl
-behind_more size (refuse x) lines e = let z : ◌≡◌ {A = ℕ} 0 1 = cc in absurd (omega arith)
+    ap Ok sum
+behind_more size (Ok a) (Err x) e = refl
+behind_more size (Err x) lines e = let z : ◌≡◌ {A = ℕ} 0 1 = cc in absurd (omega arith)
 
-behind_stops : (size : ℕ) (line lines : Result (List ℕ)) {x : Refusal} → counted.Refused x ≡ count_of line
-    → more size (behind line lines) ≡ counted.Refused x
-behind_stops size (ok a) lines e = let z : ◌≡◌ {A = ℕ} 0 1 = cc in absurd (omega arith)
-behind_stops size (refuse x) lines e = sym e
+behind_stops : (size : ℕ) (line lines : Answer (List ℕ)) {x : Refusal} → Err x ≡ count_of line
+    → more size (behind line lines) ≡ Err x
+behind_stops size (Ok a) lines e = let z : ◌≡◌ {A = ℕ} 0 1 = cc in absurd (omega arith)
+behind_stops size (Err x) lines e = sym e
 
-measured_all : (r : Result (List ℕ)) → more 0 r ≡ count_of r
-measured_all (ok text) = let z : 0 + length text ≡ length text = omega arith in ap counted.Count z
-measured_all (refuse x) = refl
-
-pub measured_start : (bytes : List ℕ) (l : Layout) (bar : Bar) {n : ℕ} → n ≡ l.terms
-    → more 0 (lines_in bytes l bar (n - 0) 0) ≡ count_of (lines_in bytes l bar l.terms 0)
-measured_start bytes l bar {n} e =
-    let all : n - 0 ≡ l.terms = omega arith in
-    ap (λ k. more 0 (lines_in bytes l bar k 0)) all ∙ measured_all (lines_in bytes l bar l.terms 0)
-
-module _ (bytes : List ℕ) (l : Layout) (bar : Bar) (n i size : ℕ) {whole : Counted}
+module _ (bytes : List ℕ) (l : Layout) (bar : Bar) (n i size : ℕ) {whole : Answer ℕ}
     (inv : more size (lines_in bytes l bar (n - i) i) ≡ whole) where
-  abbrev here : Result (List ℕ)
+  abbrev here : Answer (List ℕ)
   here = line_in (documents_in bytes l) bar (entry_in bytes l i)
 
-  abbrev after : Result (List ℕ)
+  abbrev after : Answer (List ℕ)
   after = lines_in bytes l bar (n - (i + 1)) (i + 1)
 
   module _ (h : i < n) where
     turn : more size (behind here after) ≡ whole
     turn = sym (ap (more size) (lines_next bytes l bar n i h)) ∙ inv
 
-    pub measured_next : {k : ℕ} → counted.Count k ≡ count_of here → more (size + k) after ≡ whole
+    pub measured_next : {k : ℕ} → Ok k ≡ count_of here → more (size + k) after ≡ whole
     measured_next e = sym (behind_more size here after e) ∙ turn
 
-    pub measured_stop : {x : Refusal} → counted.Refused x ≡ count_of here → counted.Refused x ≡ whole
+    pub measured_stop : {x : Refusal} → Err x ≡ count_of here → Err x ≡ whole
     measured_stop e = sym (behind_stops size here after e) ∙ turn
 
-  pub measured_end : n ≤ i → counted.Count size ≡ whole
+  pub measured_end : n ≤ i → Ok size ≡ whole
   measured_end h =
       let z : size ≡ size + 0 = omega arith in
-      ap counted.Count z ∙ sym (ap (more size) (lines_end bytes l bar n i h)) ∙ inv
+      ap Ok z ∙ sym (ap (more size) (lines_end bytes l bar n i h)) ∙ inv
 
 -- ---- stored
 
 -- what was measured was decoded
-pub measured_decoded : (r : Result (List ℕ)) {k : ℕ} → counted.Count k ≡ count_of r → Decoded r
-measured_decoded (ok text) e = (text, refl)
-measured_decoded (refuse x) e = let z : ◌≡◌ {A = ℕ} 0 1 = cc in absurd (omega arith)
+pub measured_decoded : (r : Answer (List ℕ)) {k : ℕ} → Ok k ≡ count_of r → Decoded r
+measured_decoded (Ok text) e = (text, refl)
+measured_decoded (Err x) e = let z : ◌≡◌ {A = ℕ} 0 1 = cc in absurd (omega arith)
 
-pub measured_length : (r : Result (List ℕ)) {k : ℕ} → counted.Count k ≡ count_of r → length (text_in r) ≡ k
-measured_length (ok text) e = cc
-measured_length (refuse x) e = let z : ◌≡◌ {A = ℕ} 0 1 = cc in absurd (omega arith)
+pub measured_length : (r : Answer (List ℕ)) {k : ℕ} → Ok k ≡ count_of r → length (text_in r) ≡ k
+measured_length (Ok text) e = cc
+measured_length (Err x) e = let z : ◌≡◌ {A = ℕ} 0 1 = cc in absurd (omega arith)
 
 -- the parts of what was decoded
-record Parts (line lines : Result (List ℕ)) : Type 0 where
+record Parts (line lines : Answer (List ℕ)) : Type 0 where
   first : Decoded line
   others : Decoded lines
   together : text_in (behind line lines) ≡ text_in line ++ text_in lines
 
-parts : (line lines : Result (List ℕ)) → Decoded (behind line lines) → Parts line lines
-parts (ok a) (ok b) d = record { first = (a, refl); others = (b, refl); together = refl }
-parts (ok a) (refuse x) (t, e) = refuse_ok e
-parts (refuse x) lines (t, e) = refuse_ok e
+parts : (line lines : Answer (List ℕ)) → Decoded (behind line lines) → Parts line lines
+parts (Ok a) (Ok b) d = record { first = (a, refl); others = (b, refl); together = refl }
+parts (Ok a) (Err x) (t, e) = refuse_ok e
+parts (Err x) lines (t, e) = refuse_ok e
 
 module _ (bytes : List ℕ) (l : Layout) (bar : Bar) (n i : ℕ) (h : i < n) (d : Decoded (lines_in bytes l bar (n - i) i)) where
-  abbrev line : Result (List ℕ)
+  abbrev line : Answer (List ℕ)
   line = line_in (documents_in bytes l) bar (entry_in bytes l i)
 
-  abbrev lines : Result (List ℕ)
+  abbrev lines : Answer (List ℕ)
   lines = lines_in bytes l bar (n - (i + 1)) (i + 1)
 
   apart : Parts line lines
@@ -173,12 +162,6 @@ LinesLeft bytes l bar from entry n i next out =
     × ToStore (text_in (lines_in bytes l bar l.terms 0)) from entry (text_in (lines_in bytes l bar (n - i) i)) next out
 
 module _ (bytes : List ℕ) (l : Layout) (bar : Bar) (from : ℕ) (entry : List ℕ) where
-  pub left_all : {n : ℕ} → n ≡ l.terms → RoomFor (lines_in bytes l bar l.terms 0) entry from
-      → LinesLeft bytes l bar from entry n 0 from entry
-  left_all {n} e r =
-      let all : n - 0 ≡ l.terms = omega arith in
-      rw all (r.decoded, to_start r.room)
-
   module _ {n i next : ℕ} {out : List ℕ} (h : i < n) (s : LinesLeft bytes l bar from entry n i next out) where
     apart_left : ToStoreParts (text_in (lines_in bytes l bar l.terms 0)) from entry
         (text_in (line_in (documents_in bytes l) bar (entry_in bytes l i)) ∷ [])

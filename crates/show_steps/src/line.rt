@@ -1,6 +1,5 @@
 // One sound of a bar, as text. Each `put_` returns the offset past what it stored.
-ghost use Rattle.std.specs.Prelude.{◌≡◌, ◌+◌, ◌≤◌, ◌<◌, length, drop};
-ghost use Rattle.std.proofs.Math.Option.{none};
+ghost use Rattle.std.specs.Prelude.{None, ◌≡◌, ◌+◌, ◌≤◌, ◌<◌, length, drop};
 ghost use Rattle.common.specs.Stores.{Stored};
 ghost use Rattle.read_cursors.specs.Held.{held_positions};
 ghost use Rattle.read_cursors.specs.Steps.{positions_from};
@@ -17,8 +16,7 @@ use show_listing::list::put_end;
 fn step_mark(c: Positions, len: u32, step: u32) -> u8
     ensures { result ≡ mark_at c len step }
 {
-    let here = c.pos;
-    if 0 < c.remaining && here.0 == step {
+    if 0 < c.remaining && c.pos.0 == step {
         return 111;
     }
     if step < len {
@@ -33,12 +31,9 @@ fn put_steps(bytes: &[u8], hits: Positions, len: u32, out: &mut [u8], at: usize)
     ensures { Stored (marks len (positions_from bytes.now hits) 64 0) at out.old result out.new }
 {
     let mut c = hits;
-    let mut step: u32 = 0;
-    while step < 64 {
-        let next = step + 1;
+    for step in 0..64 {
         out[at + step as usize] = step_mark(c, len, step);
-        c = c.seek(bytes, next as u64);
-        step = next;
+        c = c.seek(bytes, step as u64 + 1);
     }
     at + 64
 }
@@ -59,10 +54,10 @@ pub fn put_sound(
     at: usize,
 ) -> usize
     requires { (here.count < 100)
-        × (length (held_positions here.count none (drop here.at bytes.now)) ≡ here.count)
+        × (length (held_positions here.count None (drop here.at bytes.now)) ≡ here.count)
         × (at + length (name_column 12 name.now) + 69 ≤ length out.old) }
     ensures { Stored
-        (sound_line len name.now (held_positions here.count none (drop here.at bytes.now)))
+        (sound_line len name.now (held_positions here.count None (drop here.at bytes.now)))
         at out.old result out.new }
 {
     let steps = put_name(out, at, name, NAME_WIDTH);

@@ -45,17 +45,6 @@ module _ (r : Range) (s : List ℕ) (at : ℕ) {t : Bool} (is : t ≡ starts (r 
   pub apart : (rs : List Range) → t ≡ false → false ≡ starts (r ∷ rs) (drop at s)
   apart rs e = rw (split r rs s at, ← is, e)
 
--- The first of the sequences, from the answer t for it
-module _ (q : List Range) (qs : List (List Range)) (l : List ℕ) {t : Bool} (is : t ≡ starts q l) {n : ℕ}
-    (first : n ≡ first_of (q ∷ qs) l) where
-  pub found : t ≡ true → length q ≡ n
-  unfolding first_of
-  found e = rw (first, ← is, e)
-
-  pub passed : t ≡ false → n ≡ first_of qs l
-  unfolding first_of
-  passed e = rw (first, ← is, e)
-
 -- A sequence that the list starts with is no longer than the list
 starts_le : (rs : List Range) (l : List ℕ) → starts rs l ≡ true → length rs ≤ length l
 unfolding starts

@@ -6,47 +6,35 @@ ghost use Rattle.utf8.specs.Utf8.{utf8, char_length, starts, range, utf8_tail};
 fn one(s: &[u8], at: usize, low: u8, high: u8) -> bool
     ensures { result ≡ starts (range low high ∷ []) (drop at s.now) }
 {
-    if s.len() <= at {
+    let Some(&b) = s.get(at) else {
         return false;
-    }
-    let b = s[at];
-    if b < low {
-        return false;
-    }
-    b <= high
+    };
+    low <= b && b <= high
 }
 
 // An octet of each of two ranges.
 fn two(s: &[u8], at: usize, low: u8, high: u8, low1: u8, high1: u8) -> bool
     ensures { result ≡ starts (range low high ∷ range low1 high1 ∷ []) (drop at s.now) }
 {
-    if one(s, at, low, high) {
-        return one(s, at + 1, low1, high1);
-    }
-    false
+    one(s, at, low, high) && one(s, at + 1, low1, high1)
 }
 
 // An octet of each of two ranges, and a tail.
 fn three(s: &[u8], at: usize, low: u8, high: u8, low1: u8, high1: u8) -> bool
     ensures { result ≡ starts (range low high ∷ range low1 high1 ∷ utf8_tail ∷ []) (drop at s.now) }
 {
-    if one(s, at, low, high) {
-        return two(s, at + 1, low1, high1, 0x80, 0xBF);
-    }
-    false
+    one(s, at, low, high) && two(s, at + 1, low1, high1, 0x80, 0xBF)
 }
 
 // An octet of each of two ranges, and two tails.
 fn four(s: &[u8], at: usize, low: u8, high: u8, low1: u8, high1: u8) -> bool
     ensures { result ≡ starts (range low high ∷ range low1 high1 ∷ utf8_tail ∷ utf8_tail ∷ []) (drop at s.now) }
 {
-    if one(s, at, low, high) {
-        return three(s, at + 1, low1, high1, 0x80, 0xBF);
-    }
-    false
+    one(s, at, low, high) && three(s, at + 1, low1, high1, 0x80, 0xBF)
 }
 
 // The number of octets of the character at an offset, or 0 where there is none: UTF8-char, row by row.
+#[tactic(auto, unfolding(crate::specs::Utf8::char_length, crate::specs::Utf8::sequences, crate::specs::Utf8::first_of))]
 pub fn char_len(s: &[u8], at: usize) -> usize
     ensures { result ≡ char_length (drop at s.now) }
 {
@@ -85,6 +73,7 @@ pub fn is_utf8(s: &[u8]) -> bool
     ensures { result ≡ utf8 s.now }
 {
     let mut at = 0;
+    // `at` moves on by a character's length, so this is no `for`.
     while at < s.len() {
         let k = char_len(s, at);
         if k == 0 {

@@ -13,21 +13,16 @@ pub struct Prefix {
 pub fn first_characters(s: &[u8], most: usize) -> Prefix
     ensures { IsPrefix s.now most result }
 {
-    let mut characters: usize = 0;
     let mut octets: usize = 0;
-    while characters < most {
+    for characters in 0..most {
         let k = char_len(s, octets);
         if k == 0 {
-            return Prefix {
-                characters: characters,
-                octets: octets,
-            };
+            return Prefix { characters, octets };
         }
         octets += k;
-        characters += 1;
     }
     Prefix {
-        characters: characters,
-        octets: octets,
+        characters: most,
+        octets,
     }
 }

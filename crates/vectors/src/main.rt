@@ -5,7 +5,7 @@
 ghost use Rattle.std.specs.Prelude.{◌≤◌, length};
 
 use crc32::checksum::crc32;
-use leb128::varint::{Decoded, Reader, encode_u32, encoded_len};
+use leb128::varint::{Reader, encode_u32, encoded_len};
 use std::io;
 use utf8::characters::is_utf8;
 
@@ -30,10 +30,8 @@ fn put_byte(rt: &impl Print, b: u8) -> io::Result<()> {
 fn put_first(rt: &impl Print, n: usize, s: &[u8]) -> io::Result<()>
     requires { n ≤ length s.now }
 {
-    let mut i = 0;
-    while i < n {
-        put_byte(rt, s[i])?;
-        i += 1;
+    for b in &s[..n] {
+        put_byte(rt, *b)?;
     }
     Ok(())
 }
@@ -77,7 +75,7 @@ fn read(rt: &impl Print, s: &[u8]) -> io::Result<()> {
     put_bytes(rt, s)?;
     put(rt, b" -> ")?;
     let r = Reader { at: 0 };
-    let Decoded::Value(n) = r.decode_u32(s) else {
+    let Some(n) = r.decode_u32(s) else {
         return put(rt, b"refused\n");
     };
     put_number(rt, n.value)?;

@@ -56,14 +56,6 @@ module _ (ids counts positions : List ℕ) (i at : ℕ) where
   pub postings_end : length ids ≤ i → postings_in (drop i ids) (drop i counts) (drop at positions) ≡ []
   postings_end h = rw (drop_end ids i h)
 
--- the walk past a term, from its parts
-pub next_is : (w : Walk) (ends posting_counts position_counts : List ℕ) {e c t : ℕ} → e ≡ get_or ends w.term 0
-    → c ≡ get_or posting_counts w.term 0 → t ≡ total (between w.posting (w.posting + c) position_counts)
-    → record { term = w.term + 1; name = e; posting = w.posting + c; position = w.position + t }
-    ≡ next_of w ends posting_counts position_counts
-next_is w ends posting_counts position_counts {e} {c} {t} is_e is_c is_t =
-    rw (is_t, part_of w.posting c position_counts, is_c, is_e)
-
 -- ---- the next term of a walk
 
 -- where its name ends, how many postings it has, and where they end

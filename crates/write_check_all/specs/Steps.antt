@@ -1,4 +1,5 @@
 -- The flat lists taken term by term: the terms still to come, and what a step of the walk asks.
+use Rattle.segment.specs.Results.{Answer}
 use Rattle.std.specs.Prelude.{ℕ, ◌+◌, ◌≤◌, ◌<◌, ◌≡◌, true, List, length, take, drop, get_or}
 use Rattle.segment.specs.Records.{Term}
 use Rattle.segment.specs.Texts.{names}
@@ -7,8 +8,7 @@ use Rattle.write_lookup.specs.Steps.{RisingByIndex}
 use Rattle.write_check_all.specs.declared.walk.Walk.{Walk}
 use Rattle.segment.specs.Written.{lists_bytes}
 use Rattle.calls.specs.Checks.{small as small_test, shaped as shaped_test, check_lists}
-use Rattle.calls.specs.Given.{Lists, given, posting, term, postings_in}
-use Rattle.write_checks.specs.declared.measure.Measured.{Measured}
+use Rattle.calls.specs.Given.{Lists, given, term, postings_in}
 use Rattle.write_checks.specs.Steps.{measured}
 
 -- the terms from a point of the walk on
@@ -45,5 +45,5 @@ pub record Checkable (l : Lists) : Type 0 where
   pub rises : RisingByIndex l.ids
 
 -- all lists: the refusal of their checks, or the length of the posting lists
-abbrev pub measured_lists : Lists → Measured
+abbrev pub measured_lists : Lists → Answer ℕ
 measured_lists l = measured (check_lists l) (length (lists_bytes (given l).terms))

@@ -32,13 +32,11 @@ impl Walk {
         requires { ShapedFrom self ends.now posting_counts.now position_counts.now }
         ensures { result ≡ next_of self ends.now posting_counts.now position_counts.now }
     {
-        let term = self.term;
-        let posting = self.posting;
-        let last = posting + long(posting_counts[term]);
-        let past = total_of(&position_counts[posting..last]);
+        let last = self.posting + long(posting_counts[self.term]);
+        let past = total_of(&position_counts[self.posting..last]);
         Walk {
-            term: term + 1,
-            name: long(ends[term]),
+            term: self.term + 1,
+            name: long(ends[self.term]),
             posting: last,
             position: self.position + past as usize,
         }

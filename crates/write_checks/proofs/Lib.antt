@@ -1,3 +1,4 @@
 -- Laws that belong to no one function, lowest first.
 pub mod Checking
 pub mod Measuring
+pub mod Use

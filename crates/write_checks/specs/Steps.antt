@@ -1,10 +1,8 @@
 -- The value of a definition for what the code answers of a part that it checks and measures.
-use Rattle.std.specs.Prelude.{ℕ}
-use Rattle.segment.specs.Results.{Result, ok, refuse}
-use Rattle.write_checks.specs.declared.measure.Measured.{Measured}
-use Rattle.write_checks.specs.declared.measure.Measured.TheVariants.{Size, Refused}
+use Rattle.std.specs.Prelude.{Err, Ok, ℕ}
+use Rattle.segment.specs.Results.{Answer}
 
 -- the size of what passes its check
-abbrev pub measured : {A : Type 0} → Result A → (size : ℕ) → Measured
-measured (ok a) size = Size size
-measured (refuse x) size = Refused x
+abbrev pub measured : {A : Type 0} → Answer A → (size : ℕ) → Answer ℕ
+measured (Ok a) size = Ok size
+measured (Err x) size = Err x

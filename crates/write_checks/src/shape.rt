@@ -14,15 +14,14 @@ pub fn total_of(counts: &[u32]) -> u64
     ensures { result ≡ total counts.now }
 {
     let mut sum: u64 = 0;
-    let mut i: usize = 0;
-    while i < counts.len() {
-        sum += wide(counts[i]);
-        i += 1;
+    for count in counts {
+        sum += wide(*count);
     }
     sum
 }
 
 // No list has over 16,777,216 elements.
+#[tactic(auto, unfolding(calls::specs::Checks::small))]
 pub fn is_small(
     ids: &[u32],
     lengths: &[u32],
@@ -35,31 +34,18 @@ pub fn is_small(
 ) -> bool
     ensures { result ≡ small (given_lists ids lengths text ends posting_counts posting_ids position_counts positions) }
 {
-    if LIMIT < ids.len() {
-        return false;
-    }
-    if LIMIT < lengths.len() {
-        return false;
-    }
-    if LIMIT < text.len() {
-        return false;
-    }
-    if LIMIT < ends.len() {
-        return false;
-    }
-    if LIMIT < posting_counts.len() {
-        return false;
-    }
-    if LIMIT < posting_ids.len() {
-        return false;
-    }
-    if LIMIT < position_counts.len() {
-        return false;
-    }
-    positions.len() <= LIMIT
+    ids.len() <= LIMIT
+        && lengths.len() <= LIMIT
+        && text.len() <= LIMIT
+        && ends.len() <= LIMIT
+        && posting_counts.len() <= LIMIT
+        && posting_ids.len() <= LIMIT
+        && position_counts.len() <= LIMIT
+        && positions.len() <= LIMIT
 }
 
 // The lists fit together.
+#[tactic(auto, unfolding(calls::specs::Checks::shaped))]
 pub fn is_shaped(
     ids: &[u32],
     lengths: &[u32],
@@ -73,20 +59,10 @@ pub fn is_shaped(
     requires { (length posting_counts.now ≤ 16777216) × (length position_counts.now ≤ 16777216) }
     ensures { result ≡ shaped (given_lists ids lengths text ends posting_counts posting_ids position_counts positions) }
 {
-    if ids.len() != lengths.len() {
-        return false;
-    }
-    if !ends_fit(ends, text.len()) {
-        return false;
-    }
-    if posting_counts.len() != ends.len() {
-        return false;
-    }
-    if total_of(posting_counts) != posting_ids.len() as u64 {
-        return false;
-    }
-    if position_counts.len() != posting_ids.len() {
-        return false;
-    }
-    total_of(position_counts) == positions.len() as u64
+    ids.len() == lengths.len()
+        && ends_fit(ends, text.len())
+        && posting_counts.len() == ends.len()
+        && total_of(posting_counts) == posting_ids.len() as u64
+        && position_counts.len() == posting_ids.len()
+        && total_of(position_counts) == positions.len() as u64
 }

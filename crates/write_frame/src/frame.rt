@@ -42,9 +42,9 @@ pub fn put_entry(
     let next = put_u64(out, next, list - lists);
     let next = put_u64(out, next, end - list);
     let next = put_u32(out, next, df);
-    let next = put_u32(out, next, both.own);
+    let entry = put_u32(out, next, both.own);
     Past {
-        entry: next,
+        entry,
         run: both.run,
     }
 }
@@ -54,10 +54,12 @@ pub fn put_header(out: &mut [u8], documents: u32, terms: u32, lists_crc: u32, at
     requires { HeaderRoom out.old lists_crc at }
     ensures { HeaderStored documents terms at out.old out.new }
 {
-    let names = at.names;
-    let metadata = at.metadata;
-    let lists = at.lists;
-    let end = at.end;
+    let Offsets {
+        names,
+        metadata,
+        lists,
+        end,
+    } = at;
     let directory_crc = crc32(&out[HEADER_SIZE..names]);
     let names_crc = crc32(&out[names..metadata]);
     let metadata_crc = crc32(&out[metadata..lists]);

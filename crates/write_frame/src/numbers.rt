@@ -36,7 +36,7 @@ pub fn put_four_u32(out: &mut [u8], at: usize, w: u32, x: u32, y: u32, z: u32) -
     put_u32(out, fourth, z)
 }
 
-// Four u64 one behind the other.
+// Four u64 one behind the other. Not one generic function with `put_four_u32`: only the store in it differs, and to pass that is no plainer.
 pub fn put_four_u64(out: &mut [u8], at: usize, w: usize, x: usize, y: usize, z: usize) -> usize
     requires { at + 32 ≤ length out.old }
     ensures { Stored (four 8 w x y z) at out.old result out.new }
@@ -52,10 +52,7 @@ pub fn put_bytes(out: &mut [u8], at: usize, bytes: &[u8]) -> usize
     requires { at + length bytes.now ≤ length out.old }
     ensures { Stored bytes.now at out.old result out.new }
 {
-    let mut i: usize = 0;
-    while i < bytes.len() {
-        out[at + i] = bytes[i];
-        i += 1;
-    }
-    at + i
+    let next = at + bytes.len();
+    out[at..next].copy_from_slice(bytes);
+    next
 }

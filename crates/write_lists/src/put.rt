@@ -1,6 +1,5 @@
 // Metadata and posting lists stored from an offset on. Each function answers the offset past what it stored.
-ghost use Rattle.std.specs.Prelude.{◌≡◌, ◌+◌, ◌≤◌, length};
-ghost use Rattle.std.proofs.Math.Option.{none};
+ghost use Rattle.std.specs.Prelude.{None, ◌≡◌, ◌+◌, ◌≤◌, length};
 ghost use Rattle.segment.specs.Metadata.{document};
 ghost use Rattle.common.specs.Lists.{paired, total};
 ghost use Rattle.segment.specs.Written.{metadata_bytes, position_bytes, postings_bytes};
@@ -14,35 +13,29 @@ use write_checks::measure::gap_from;
 // The metadata.
 pub fn put_metadata(ids: &[u32], lengths: &[u32], out: &mut [u8], at: usize) -> usize
     requires { (length ids.now ≡ length lengths.now)
-        × (at + length (metadata_bytes none (paired document ids.now lengths.now)) ≤ length out.old) }
-    ensures { Stored (metadata_bytes none (paired document ids.now lengths.now)) at out.old result out.new }
+        × (at + length (metadata_bytes None (paired document ids.now lengths.now)) ≤ length out.old) }
+    ensures { Stored (metadata_bytes None (paired document ids.now lengths.now)) at out.old result out.new }
 {
     let mut next = at;
-    let mut previous: u32 = 0;
-    let mut i: usize = 0;
-    while i < ids.len() {
-        let id = ids[i];
-        next = encode_u32(gap_from(previous, id), out, next);
+    let mut previous = None;
+    for (i, id) in ids.iter().enumerate() {
+        next = encode_u32(gap_from(previous, *id), out, next);
         next = encode_u32(lengths[i], out, next);
-        previous = id;
-        i += 1;
+        previous = Some(*id);
     }
     next
 }
 
 // The positions of a posting. Each is stored as it is taken: none waits for the next.
 pub fn put_positions(positions: &[u32], out: &mut [u8], at: usize) -> usize
-    requires { at + length (position_bytes none positions.now) ≤ length out.old }
-    ensures { Stored (position_bytes none positions.now) at out.old result out.new }
+    requires { at + length (position_bytes None positions.now) ≤ length out.old }
+    ensures { Stored (position_bytes None positions.now) at out.old result out.new }
 {
     let mut next = at;
-    let mut previous: u32 = 0;
-    let mut i: usize = 0;
-    while i < positions.len() {
-        let position = positions[i];
-        next = encode_u32(gap_from(previous, position), out, next);
-        previous = position;
-        i += 1;
+    let mut previous = None;
+    for position in positions {
+        next = encode_u32(gap_from(previous, *position), out, next);
+        previous = Some(*position);
     }
     next
 }
@@ -56,23 +49,20 @@ pub fn put_postings(
     at: usize,
 ) -> usize
     requires { (length posting_ids.now ≡ length counts.now) × (total counts.now ≤ length positions.now)
-        × (at + length (postings_bytes none (postings_in posting_ids.now counts.now positions.now)) ≤ length out.old) }
-    ensures { Stored (postings_bytes none (postings_in posting_ids.now counts.now positions.now)) at out.old result out.new }
+        × (at + length (postings_bytes None (postings_in posting_ids.now counts.now positions.now)) ≤ length out.old) }
+    ensures { Stored (postings_bytes None (postings_in posting_ids.now counts.now positions.now)) at out.old result out.new }
 {
     let mut next = at;
-    let mut previous: u32 = 0;
+    let mut previous = None;
     let mut from: usize = 0;
-    let mut i: usize = 0;
-    while i < posting_ids.len() {
-        let doc = posting_ids[i];
+    for (i, doc) in posting_ids.iter().enumerate() {
         let count = counts[i];
         let to = from + long(count);
-        next = encode_u32(gap_from(previous, doc), out, next);
+        next = encode_u32(gap_from(previous, *doc), out, next);
         next = encode_u32(count, out, next);
         next = put_positions(&positions[from..to], out, next);
-        previous = doc;
+        previous = Some(*doc);
         from = to;
-        i += 1;
     }
     next
 }

@@ -1,10 +1,10 @@
 -- A document's length by its index: the ids rise, so an index that has the id is the only one.
 -- Assumes nothing.
+use Rattle.std.specs.Prelude.{None, Some}
 use mathlib.Core.Path.{◌≡◌, refl, ap}
 use mathlib.Core.List.{List, [], ◌∷◌}
-use mathlib.Core.Option.{none, some}
 use mathlib.Core.Logic.{⊎_elim}
-use Prim.Native.Nat.{ℕ, zero, suc, ◌+◌, ◌≤◌, ◌<◌}
+use Prim.Native.Nat.{ℕ, zero, suc, ◌≤◌, ◌<◌}
 use native.Mathlib.Omega.{arith}
 use lib.ListN.{length, get_or}
 use borrow.Author.Tests.{eq-eqb, ne_eqb}
@@ -20,7 +20,7 @@ rises_tail x xs r i j h k = r (suc i) (suc j) (omega arith) (omega arith)
 
 pub length_found : (ids lengths : List ℕ) (id i : ℕ) → RisingByIndex ids → length ids ≡ length lengths → get_or ids i 0 ≡ id
     → i < length ids
-    → length_of (paired document ids lengths) id ≡ some (get_or lengths i 0)
+    → length_of (paired document ids lengths) id ≡ Some (get_or lengths i 0)
 unfolding length_of
 length_found [] ys id i r l e h = absurd (omega arith)
 length_found (x ∷ xs) [] id i r l e h = absurd (omega arith)
@@ -30,7 +30,7 @@ length_found (x ∷ xs) (y ∷ ys) id (suc i) r l e h =
     (length_found xs ys id i (rises_tail x xs r) (omega arith) e (omega arith))
 
 pub length_missing : (ids lengths : List ℕ) (id : ℕ) → ((k : ℕ) → k < length ids → get_or ids k 0 ≡ id → ⊥)
-    → length_of (paired document ids lengths) id ≡ none
+    → length_of (paired document ids lengths) id ≡ None
 unfolding length_of
 length_missing [] ys id f = refl
 length_missing (x ∷ xs) [] id f = refl
@@ -51,32 +51,18 @@ rises_by_place (x ∷ xs) r zero (suc j) h k = before_all x xs r j (omega arith)
 rises_by_place (x ∷ xs) r (suc i) zero h k = absurd (omega arith)
 rises_by_place (x ∷ xs) r (suc i) (suc j) h k = rises_by_place xs (rising_tail x xs r) i j (omega arith) (omega arith)
 
--- ---- binary search: below one index all ids are lower, and from another on all are greater
-
-abbrev pub LowerBefore : ℕ → List ℕ → ℕ → Type 0
-LowerBefore low ids id = (k : ℕ) → k < low → get_or ids k 0 < id
-
-abbrev pub GreaterFrom : ℕ → List ℕ → ℕ → Type 0
-GreaterFrom high ids id = (k : ℕ) → high ≤ k → k < length ids → id < get_or ids k 0
+-- ---- what the library's binary search found, or did not find
 
 module _ (ids : List ℕ) (r : RisingByIndex ids) where
-  no_lower : (i j : ℕ) → i ≤ j → j < length ids → get_or ids i 0 ≤ get_or ids j 0
+  pub no_lower : (i j : ℕ) → i ≤ j → j < length ids → get_or ids i 0 ≤ get_or ids j 0
   no_lower i j h k =
       ⊎_elim
       (λ (l : i < j). omega (arith, r i j l k))
       (λ (l : j ≤ i). let e : i ≡ j = omega arith in omega (arith, ap (λ (n : ℕ). get_or ids n 0) e))
       (lt_or_ge i j)
 
-  pub lower_up_to : (m id : ℕ) → get_or ids m 0 < id → m < length ids → LowerBefore (m + 1) ids id
-  lower_up_to m id l h k p = omega (arith, no_lower k m (omega arith) h)
-
-  pub greater_down_to : (m id : ℕ) → id ≤ get_or ids m 0 → (get_or ids m 0 ≡ id → ⊥) → GreaterFrom m ids id
-  greater_down_to m id g n k p q = omega (arith, no_lower m k p q)
-
-pub nowhere : (ids : List ℕ) (id low high : ℕ) → high ≤ low → LowerBefore low ids id → GreaterFrom high ids id
+-- before an index all ids are lower, and from it on all are greater
+pub nowhere : (ids : List ℕ) (id i : ℕ) → ((k : ℕ) → k < i → get_or ids k 0 < id)
+    → ((k : ℕ) → i ≤ k → k < length ids → id < get_or ids k 0)
     → (k : ℕ) → k < length ids → get_or ids k 0 ≡ id → ⊥
-nowhere ids id low high h l g k p e =
-    ⊎_elim
-    (λ (q : k < low). omega (arith, l k q))
-    (λ (q : low ≤ k). omega (arith, g k (omega arith) p))
-    (lt_or_ge k low)
+nowhere ids id i l g k p e = ⊎_elim (λ (q : k < i). omega (arith, l k q)) (λ (q : i ≤ k). omega (arith, g k q p)) (lt_or_ge k i)

@@ -12,12 +12,10 @@ fn lower_of(ids: &[u32], id: DocId) -> usize
     ensures { result ≤ length ids.now }
 {
     let mut lower: usize = 0;
-    let mut i: usize = 0;
-    while i < ids.len() {
-        if ids[i] < id.0 {
+    for x in ids {
+        if *x < id.0 {
             lower += 1;
         }
-        i += 1;
     }
     lower
 }
@@ -52,7 +50,7 @@ fn index_behind(ids: &[u32], id: DocId, from: usize) -> usize {
             return index_within(ids, id, low, last);
         }
         low += step;
-        step = step * 2;
+        step *= 2;
     }
     low
 }
@@ -60,13 +58,11 @@ fn index_behind(ids: &[u32], id: DocId, from: usize) -> usize {
 // A hint for `known_len`: the index of the id, if it is at `from` or behind. A term's postings rise, so each document is near the one
 // before.
 pub fn index_from(ids: &[u32], id: DocId, from: usize) -> usize {
-    if from < ids.len() {
-        if NEXT < ids.len() - from {
-            if id.0 <= ids[from + NEXT - 1] {
-                return from + lower_of(&ids[from..from + NEXT], id);
-            }
-            return index_behind(ids, id, from + NEXT);
+    if from < ids.len() && NEXT < ids.len() - from {
+        if id.0 <= ids[from + NEXT - 1] {
+            return from + lower_of(&ids[from..from + NEXT], id);
         }
+        return index_behind(ids, id, from + NEXT);
     }
     index_behind(ids, id, from)
 }

@@ -6,35 +6,16 @@ ghost use Rattle.write_lookup.specs.Steps.{known_means, RisingByIndex};
 
 use segment::ids::DocId;
 
-#[derive(Clone, Copy)]
-pub enum KnownLength {
-    Known(u32),
-    Unknown,
-}
-
 // The length beside an id: at the hint, or else by binary search, as the ids rise strictly. The hint affects speed only.
-pub fn known_len(ids: &[u32], lengths: &[u32], id: DocId, hint: usize) -> KnownLength
+pub fn known_len(ids: &[u32], lengths: &[u32], id: DocId, hint: usize) -> Option<u32>
     requires { RisingByIndex ids.now × (length ids.now ≡ length lengths.now) }
     ensures { known_means result ≡ length_of (paired document ids.now lengths.now) id.0 }
 {
-    if hint < ids.len() {
-        if ids[hint] == id.0 {
-            return KnownLength::Known(lengths[hint]);
-        }
+    if hint < ids.len() && ids[hint] == id.0 {
+        return Some(lengths[hint]);
     }
-    let mut low: usize = 0;
-    let mut high = ids.len();
-    while low < high {
-        let middle = low + (high - low) / 2;
-        let here = ids[middle];
-        if here == id.0 {
-            return KnownLength::Known(lengths[middle]);
-        }
-        if here < id.0 {
-            low = middle + 1;
-        } else {
-            high = middle;
-        }
+    match ids.binary_search(&id.0) {
+        Ok(at) => Some(lengths[at]),
+        Err(_) => None,
     }
-    KnownLength::Unknown
 }

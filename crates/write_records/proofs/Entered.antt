@@ -1,5 +1,6 @@
 -- The writer over the lists that hold the records' ids and lengths is the call over records.
 -- Assumes nothing.
+use Rattle.std.specs.Prelude.{Err, Ok}
 use mathlib.Core.Path.{◌≡◌, refl, sym, ap, ◌∙◌, subst}
 use mathlib.Core.Bool.{Bool, true, false, cond, ◌&&◌}
 use mathlib.Core.List.{List}
@@ -9,12 +10,9 @@ use lib.ListN.{length, length-map}
 use borrow.Author.Tests.{eqb-true, eq-eqb}
 use Rattle.common.proofs.Loops.{and_left, and_right}
 use Rattle.segment.specs.declared.refusal.Refusal.{Refusal}
-use Rattle.segment.specs.declared.checked.Checked.TheVariants as check
 use Rattle.segment.specs.Refusals.{too_large, list_shape}
-use Rattle.segment.specs.Results.{Result, ok, refuse}
+use Rattle.segment.specs.Results.{Answer}
 use Rattle.segment.specs.Steps.{checked}
-use Rattle.segment.specs.declared.replies.Written.{Written}
-use Rattle.segment.specs.declared.replies.Written.TheVariants as written
 use Rattle.calls.specs.Given.{Lists, lists}
 use Rattle.calls.specs.Checks.{small, check_lists}
 use Rattle.calls.specs.Writing.{write, write_records}
@@ -29,18 +27,18 @@ either : {P : Type 0} (t : Bool) → (t ≡ true → P) → (t ≡ false → P) 
 either true f g = f refl
 either false f g = g refl
 
-one_refusal : (t : Bool) (x y : Refusal) → ◌≡◌ {A = Result (Unit {0})} (cond t (refuse x) (refuse y)) (refuse (cond t x y))
+one_refusal : (t : Bool) (x y : Refusal) → ◌≡◌ {A = Answer (Unit {0})} (cond t (Err x) (Err y)) (Err (cond t x y))
 one_refusal true x y = refl
 one_refusal false x y = refl
 
 -- ---- the covered function
 
 module _ (count : ℕ) (l : Lists) (out : List ℕ) where
-  pub apart_refused : {x : Refusal} → check.Refused x ≡ checked (check_places count l) → WroteApart count l out (written.Refused x) out
+  pub apart_refused : {x : Refusal} → Err x ≡ checked (check_places count l) → WroteApart count l out (Err x) out
   unfolding write_apart
   apart_refused e = let r = refused_is (check_places count l) e in record { reply = rw r; left = rw r }
 
-  pub apart_wrote : {r : Written} {out' : List ℕ} → check.Passed ≡ checked (check_places count l) → Wrote l out r out'
+  pub apart_wrote : {r : (Answer ℕ)} {out' : List ℕ} → (Ok tt) ≡ checked (check_places count l) → Wrote l out r out'
       → WroteApart count l out r out'
   unfolding write_apart
   apart_wrote e w = let (u, p) = passed_ok (check_places count l) e in record { reply = w.reply ∙ rw p; left = w.left ∙ rw p }
@@ -86,12 +84,12 @@ module _ (ds : List DocumentLength) (xs ys text ends posting_counts posting_ids 
   fits_standing e f = rw (ids_taken ds xs ys e f, lengths_taken ds xs ys e f)
 
   -- the test of the two lent lists, by what is handed in
-  pub places_fit : length xs ≡ length ds → length ys ≡ length ds → check_places (length ds) standing ≡ ok tt
+  pub places_fit : length xs ≡ length ds → length ys ≡ length ds → check_places (length ds) standing ≡ Ok tt
   unfolding check_places
   places_fit e f = rw (ids_long ds xs ys, lengths_long ds xs ys, eq-eqb _ _ e, eq-eqb _ _ f)
 
   pub places_misfit : (length xs ≡ length ds → length ys ≡ length ds → ⊥)
-      → check_places (length ds) standing ≡ refuse (cond (small handed_in) list_shape too_large)
+      → check_places (length ds) standing ≡ Err (cond (small handed_in) list_shape too_large)
   unfolding check_places misfit
   places_misfit differ =
       let a = eqb (length xs) (length ds) in
@@ -123,7 +121,7 @@ module _ (ds : List DocumentLength) (xs ys text ends posting_counts posting_ids 
       (λ t. either (small handed_in) (λ s. rw (i, j, t, small_is, s, count_is, t)) (λ s. rw (i, j, t, small_is, s)))
 
   -- everything lent, as it is afterwards
-  pub wrote_records : {out out' : List ℕ} {r : Written} → WroteApart (length ds) standing out r out'
+  pub wrote_records : {out out' : List ℕ} {r : (Answer ℕ)} → WroteApart (length ds) standing out r out'
       → WroteRecords handed_in ds xs ys out r ds xs ys out'
   wrote_records {out} w = record {
     reply = w.reply ∙ rw (apart_is (length out));
@@ -134,7 +132,7 @@ module _ (ds : List DocumentLength) (xs ys text ends posting_counts posting_ids 
   }
 
   -- exchanged, written and exchanged back
-  pub wrote_between : {ds' ds'' : List DocumentLength} {xs' ys' xs'' ys'' out out' : List ℕ} {r : Written}
+  pub wrote_between : {ds' ds'' : List DocumentLength} {xs' ys' xs'' ys'' out out' : List ℕ} {r : (Answer ℕ)}
       → three ds' xs' ys' ≡ exchanged ds xs ys → three ds'' xs'' ys'' ≡ exchanged ds' xs' ys' → length ds' ≡ length ds
       → WroteApart (length ds') (lists xs' ys' text ends posting_counts posting_ids position_counts positions) out r out'
       → WroteRecords handed_in ds xs ys out r ds'' xs'' ys'' out'

@@ -1,9 +1,8 @@
 -- Records and two lists of numbers, exchanged index by index as far as the shortest goes.
-use Rattle.std.specs.Prelude.{ℕ, ◌≤◌, List, [], ◌∷◌, ◌≡◌, cond, ◌&&◌, leb, eqb, length}
+use Rattle.std.specs.Prelude.{Err, Ok, ℕ, ◌≤◌, List, [], ◌∷◌, ◌≡◌, cond, ◌&&◌, leb, eqb, length}
 use Rattle.write_records.specs.declared.exchange.DocumentLength.{DocumentLength}
 use Rattle.segment.specs.Refusals.{too_large, list_shape}
-use Rattle.segment.specs.Results.{Result, ok, refuse, ◌>>=◌}
-use Rattle.segment.specs.declared.replies.Written.{Written}
+use Rattle.segment.specs.Results.{Answer, ◌>>=◌}
 use Rattle.calls.specs.Given.{Lists, lists}
 use Rattle.calls.specs.Checks.{small}
 use Rattle.calls.specs.Writing.{write}
@@ -45,18 +44,18 @@ abbrev pub others : Lists → Lists
 others l = lists l.ends l.ends l.text l.ends l.posting_counts l.posting_ids l.position_counts l.positions
 
 -- a lent list that has too few or too many places: 12 before 11
-unfoldable pub misfit : (count : ℕ) → Lists → Result (Unit {0})
-misfit count l = cond (leb count 16777216 && small (others l)) (refuse list_shape) (refuse too_large)
+unfoldable pub misfit : (count : ℕ) → Lists → Answer (Unit {0})
+misfit count l = cond (leb count 16777216 && small (others l)) (Err list_shape) (Err too_large)
 
 -- the two lists have a place for each record, or the refusal
-unfoldable pub check_places : (count : ℕ) → Lists → Result (Unit {0})
-check_places count l = cond (eqb (length l.ids) count && eqb (length l.lengths) count) (ok tt) (misfit count l)
+unfoldable pub check_places : (count : ℕ) → Lists → Answer (Unit {0})
+check_places count l = cond (eqb (length l.ids) count && eqb (length l.lengths) count) (Ok tt) (misfit count l)
 
-unfoldable pub write_apart : (count : ℕ) → Lists → (room : ℕ) → Result (List ℕ)
+unfoldable pub write_apart : (count : ℕ) → Lists → (room : ℕ) → Answer (List ℕ)
 write_apart count l room = do
   _ ← check_places count l
   write l room
 
-pub record WroteApart (count : ℕ) (l : Lists) (out : List ℕ) (r : Written) (out' : List ℕ) : Type 0 where
+pub record WroteApart (count : ℕ) (l : Lists) (out : List ℕ) (r : Answer ℕ) (out' : List ℕ) : Type 0 where
   pub reply : r ≡ length_of_written (write_apart count l (length out))
   pub left : out' ≡ filled (λ xs. xs) (write_apart count l (length out)) out

@@ -18,16 +18,7 @@ pub struct DocumentLength {
 fn shortest(a: usize, b: usize, c: usize) -> usize
     ensures { Least a b c result }
 {
-    if b < a {
-        if c < b {
-            return c;
-        }
-        return b;
-    }
-    if c < a {
-        return c;
-    }
-    a
+    a.min(b).min(c)
 }
 
 // Exchanges, index by index, a record's id with the number in `ids` and its length with the number in `lengths`, as far as the shortest of
@@ -36,8 +27,7 @@ pub fn exchange(documents: &mut [DocumentLength], ids: &mut [u32], lengths: &mut
     ensures { three documents.new ids.new lengths.new ≡ exchanged documents.old ids.old lengths.old }
 {
     let n = shortest(documents.len(), ids.len(), lengths.len());
-    let mut i: usize = 0;
-    while i < n {
+    for i in 0..n {
         let document = &mut documents[i];
         let id = &mut ids[i];
         let len = &mut lengths[i];
@@ -46,6 +36,5 @@ pub fn exchange(documents: &mut [DocumentLength], ids: &mut [u32], lengths: &mut
         document.len = *len;
         *id = taken.id.0;
         *len = taken.len;
-        i += 1;
     }
 }

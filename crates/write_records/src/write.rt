@@ -7,14 +7,13 @@ ghost use Rattle.write_records.specs.Steps.{misfit, check_places as places_check
 ghost use Rattle.write_records.specs.Promise.{taken_apart, WroteRecords};
 
 use crate::exchange::{DocumentLength, exchange};
-use segment::checked::Checked;
-use segment::refusal::{LIMIT, list_shape, too_large};
-use segment::replies::Written;
+use segment::refusal::{LIMIT, Refusal};
 use write_checks::shape::is_small;
 use write_segment::write::write_positional_segment;
 
 // A lent list has too few or too many places: 12, if something handed in is too large, else 11. 12 does not look at the two lent lists, so
 // `ends`, which it looks at anyway, is passed instead of them.
+#[tactic(auto, unfolding(crate::specs::Steps::misfit))]
 fn refuse_places(
     count: usize,
     text: &[u8],
@@ -23,30 +22,30 @@ fn refuse_places(
     posting_ids: &[u32],
     position_counts: &[u32],
     positions: &[u32],
-) -> Checked
+) -> Result<(), Refusal>
     ensures { result ≡ checked (misfit count
         (lists ends.now ends.now text.now ends.now posting_counts.now posting_ids.now position_counts.now
         positions.now)) }
 {
-    if LIMIT < count {
-        return Checked::Refused(too_large());
+    if LIMIT < count
+        || !is_small(
+            ends,
+            ends,
+            text,
+            ends,
+            posting_counts,
+            posting_ids,
+            position_counts,
+            positions,
+        )
+    {
+        return Err(Refusal::TooLarge);
     }
-    if !is_small(
-        ends,
-        ends,
-        text,
-        ends,
-        posting_counts,
-        posting_ids,
-        position_counts,
-        positions,
-    ) {
-        return Checked::Refused(too_large());
-    }
-    Checked::Refused(list_shape())
+    Err(Refusal::ListShape)
 }
 
 // The two lent lists have a place for each record, or the refusal.
+#[tactic(auto, unfolding(crate::specs::Steps::check_places, crate::specs::Steps::misfit))]
 pub fn check_places(
     count: usize,
     ids: &[u32],
@@ -57,11 +56,11 @@ pub fn check_places(
     posting_ids: &[u32],
     position_counts: &[u32],
     positions: &[u32],
-) -> Checked
+) -> Result<(), Refusal>
     ensures { result ≡ checked (places_checks count
         (given_lists ids lengths text ends posting_counts posting_ids position_counts positions)) }
 {
-    if ids.len() != count {
+    if ids.len() != count || lengths.len() != count {
         return refuse_places(
             count,
             text,
@@ -72,18 +71,7 @@ pub fn check_places(
             positions,
         );
     }
-    if lengths.len() != count {
-        return refuse_places(
-            count,
-            text,
-            ends,
-            posting_counts,
-            posting_ids,
-            position_counts,
-            positions,
-        );
-    }
-    Checked::Passed
+    Ok(())
 }
 
 // The writer over the two lists, which now hold the records' ids and lengths.
@@ -98,11 +86,11 @@ fn write_apart(
     position_counts: &[u32],
     positions: &[u32],
     out: &mut [u8],
-) -> Written
+) -> Result<usize, Refusal>
     ensures { WroteApart count (given_lists ids lengths text ends posting_counts posting_ids position_counts positions)
         out.old result out.new }
 {
-    if let Checked::Refused(x) = check_places(
+    check_places(
         count,
         ids,
         lengths,
@@ -112,9 +100,7 @@ fn write_apart(
         posting_ids,
         position_counts,
         positions,
-    ) {
-        return Written::Refused(x);
-    }
+    )?;
     write_positional_segment(
         ids,
         lengths,
@@ -140,7 +126,7 @@ pub fn write_positional_segment_records(
     position_counts: &[u32],
     positions: &[u32],
     out: &mut [u8],
-) -> Written
+) -> Result<usize, Refusal>
     ensures { WroteRecords (taken_apart documents.old text.now ends.now posting_counts.now posting_ids.now
         position_counts.now positions.now) documents.old ids.old lengths.old out.old result documents.new ids.new
         lengths.new out.new }

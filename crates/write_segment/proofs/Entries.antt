@@ -1,8 +1,8 @@
 -- Posting lists and directory entries stored term by term: each at the end of its own run.
 -- Assumes nothing.
+use Rattle.std.specs.Prelude.{None}
 use mathlib.Core.Path.{◌≡◌, refl, sym, ap, ap₂, ◌∙◌}
 use mathlib.Core.List.{List, ◌++◌}
-use mathlib.Core.Option.{none}
 use Prim.Native.Nat.{ℕ, ◌+◌, ◌-◌, ◌*◌, ◌≤◌, ◌<◌}
 use native.Mathlib.Omega.{arith}
 use lib.ListN.{length, length-append}
@@ -80,7 +80,7 @@ module _ (l : Lists) (at : ℕ) (start : List ℕ) (room : TermsRoom l start at)
 
     module _ (h : w.term < length l.ends) where
       abbrev bytes : List ℕ
-      bytes = postings_bytes none (postings_at w l)
+      bytes = postings_bytes None (postings_at w l)
 
       abbrev later : List ℕ
       later = lists_bytes (terms_from (next_in w l) l)

@@ -1,8 +1,8 @@
 -- The sections stored each at its offset, and the header over them, are the segment.
 -- Assumes nothing.
+use Rattle.std.specs.Prelude.{Err, None, Ok}
 use mathlib.Core.Path.{◌≡◌, refl, sym, ap, ◌∙◌}
 use mathlib.Core.List.{List, ◌++◌}
-use mathlib.Core.Option.{none}
 use Prim.Native.Nat.{ℕ, ◌+◌, ◌*◌, ◌≤◌, ◌<◌}
 use native.Mathlib.Omega.{arith}
 use borrow.Author.Tests.{le-leb, lt-leb}
@@ -12,11 +12,8 @@ use Rattle.crc32.specs.Crc32.{crc32_of}
 use Rattle.common.proofs.Sets.{sets_append, sets_front}
 use Rattle.segment.specs.Records.{Document, Term, Given, between}
 use Rattle.segment.specs.declared.refusal.Refusal.{Refusal}
-use Rattle.segment.specs.declared.checked.Checked.TheVariants as check
 use Rattle.segment.specs.Refusals.{no_room}
-use Rattle.segment.specs.Results.{ok}
 use Rattle.segment.specs.Steps.{checked}
-use Rattle.segment.specs.declared.replies.Written.TheVariants as written
 use Rattle.calls.specs.Writing.{write}
 use Rattle.calls.specs.Checks.{check_lists}
 use Rattle.write_frame.specs.declared.frame.Offsets.{Offsets}
@@ -138,7 +135,7 @@ module _ (l : Lists) (out : List ℕ) (at : Offsets) (room : SegmentRoom l out a
   directory_of = directory_bytes 0 0 terms
 
   abbrev metadata_of : List ℕ
-  metadata_of = metadata_bytes none documents
+  metadata_of = metadata_bytes None documents
 
   abbrev lists_of : List ℕ
   lists_of = lists_bytes terms
@@ -205,39 +202,39 @@ module _ (l : Lists) (out : List ℕ) (at : Offsets) (room : SegmentRoom l out a
 
 pub segment_size : (g : Given)
     → length (segment_bytes g)
-    ≡ 72 + 32 * length g.terms + length (name_bytes g.terms) + length (metadata_bytes none g.documents)
+    ≡ 72 + 32 * length g.terms + length (name_bytes g.terms) + length (metadata_bytes None g.documents)
     + length (lists_bytes g.terms)
 unfolding segment_bytes
 segment_size g =
     let ts = g.terms in
     omega (
       arith,
-      four_lengths (directory_bytes 0 0 ts) (name_bytes ts) (metadata_bytes none g.documents) (lists_bytes ts),
+      four_lengths (directory_bytes 0 0 ts) (name_bytes ts) (metadata_bytes None g.documents) (lists_bytes ts),
       directory_length ts 0 0,
     )
 
 pub segment_length : (l : Lists) → Shape l
     → length (segment_bytes (given l))
-    ≡ 72 + 32 * length l.ends + length l.text + length (metadata_bytes none (given l).documents)
+    ≡ 72 + 32 * length l.ends + length l.text + length (metadata_bytes None (given l).documents)
     + length (lists_bytes (given l).terms)
 segment_length l s = omega (arith, segment_size (given l), terms_count l s, ap length (text_is l s))
 
 module _ (l : Lists) (out : List ℕ) where
-  pub wrote_refusal : {x : Refusal} → check.Refused x ≡ checked (check_lists l) → Wrote l out (written.Refused x) out
+  pub wrote_refusal : {x : Refusal} → Err x ≡ checked (check_lists l) → Wrote l out (Err x) out
   unfolding write
   wrote_refusal e = let r = refused_is (check_lists l) e in record { reply = rw r; left = rw r }
 
-  module _ (passed : check.Passed ≡ checked (check_lists l)) {n : ℕ} (is : n ≡ length (segment_bytes (given l))) where
-    r : check_lists l ≡ ok tt
+  module _ (passed : (Ok tt) ≡ checked (check_lists l)) {n : ℕ} (is : n ≡ length (segment_bytes (given l))) where
+    r : check_lists l ≡ Ok tt
     r = (passed_ok (check_lists l) passed).1
 
-    pub wrote_no_room : length out < n → Wrote l out (written.Refused (no_room 1 n)) out
+    pub wrote_no_room : length out < n → Wrote l out (Err (no_room 1 n)) out
     unfolding write
     wrote_no_room h =
         let t = lt-leb (length (segment_bytes (given l))) (length out) (omega arith) in
         record { reply = rw (r, t, is); left = rw (r, t) }
 
-    pub wrote_all : {out' : List ℕ} → n ≤ length out → SegmentStored l out out' → Wrote l out (written.Length n) out'
+    pub wrote_all : {out' : List ℕ} → n ≤ length out → SegmentStored l out out' → Wrote l out (Ok n) out'
     unfolding write
     wrote_all h s =
         let t = le-leb (length (segment_bytes (given l))) (length out) (omega arith) in

@@ -1,7 +1,6 @@
 -- What the write pass leaves in the lent slice.
-use Rattle.std.specs.Prelude.{ℕ, ◌+◌, ◌*◌, ◌≤◌, ◌≡◌, List, ◌++◌, length, drop}
+use Rattle.std.specs.Prelude.{None, ℕ, ◌+◌, ◌*◌, ◌≤◌, ◌≡◌, List, ◌++◌, length, drop}
 use Rattle.std.proofs.lemmas.List.Edits.{sets}
-use Rattle.std.proofs.Math.Option.{none}
 use Rattle.crc32.specs.Crc32.{crc32_of}
 use Rattle.segment.specs.Records.{header_size, entry_size}
 use Rattle.write_frame.specs.declared.frame.Offsets.{Offsets}
@@ -25,7 +24,7 @@ pub record SegmentRoom (l : Lists) (out : List ℕ) (at : Offsets) : Type 0 wher
   pub checkable : Checkable l
   pub names : at.names ≡ header_size + entry_size * length l.ends
   pub metadata : at.metadata ≡ at.names + length l.text
-  pub lists : at.lists ≡ at.metadata + length (metadata_bytes none (given l).documents)
+  pub lists : at.lists ≡ at.metadata + length (metadata_bytes None (given l).documents)
   pub end : at.end ≡ at.lists + length (lists_bytes (given l).terms)
   pub room : at.end ≤ length out
 

@@ -9,11 +9,9 @@ use crate::sizes::metadata_len;
 use common::widths::long;
 use crc32::checksum::{START, finish};
 use segment::fixed::{ENTRY_SIZE, HEADER_SIZE};
-use segment::refusal::no_room;
-use segment::replies::Written;
+use segment::refusal::Refusal;
 use write_check_all::lists::measure_lists;
 use write_check_all::walk::Walk;
-use write_checks::measure::Measured;
 use write_frame::frame::{Offsets, put_entry, put_header};
 use write_frame::numbers::put_bytes;
 use write_lists::put::{put_metadata, put_postings};
@@ -38,13 +36,15 @@ fn put_terms(
 {
     let mut walk = Walk::start();
     let mut list = lists_at;
-    let mut entry: usize = HEADER_SIZE;
+    let mut entry = HEADER_SIZE;
     let mut run = START;
     while walk.term < ends.len() {
-        let term = walk.term;
-        let name = walk.name;
-        let posting = walk.posting;
-        let position = walk.position;
+        let Walk {
+            term,
+            name,
+            posting,
+            position,
+        } = walk;
         let count = posting_counts[term];
         let last = posting + long(count);
         let end = put_postings(
@@ -111,11 +111,11 @@ pub fn write_positional_segment(
     position_counts: &[u32],
     positions: &[u32],
     out: &mut [u8],
-) -> Written
+) -> Result<usize, Refusal>
     ensures { Wrote (given_lists ids lengths text ends posting_counts posting_ids position_counts positions) out.old result
         out.new }
 {
-    let size = match measure_lists(
+    let size = measure_lists(
         ids,
         lengths,
         text,
@@ -124,18 +124,13 @@ pub fn write_positional_segment(
         posting_ids,
         position_counts,
         positions,
-    ) {
-        Measured::Size(size) => size,
-        Measured::Refused(x) => {
-            return Written::Refused(x);
-        }
-    };
+    )?;
     let names = HEADER_SIZE + ends.len() * ENTRY_SIZE;
     let metadata = names + text.len();
     let lists = metadata + metadata_len(ids, lengths);
     let end = lists + size;
     if out.len() < end {
-        return Written::Refused(no_room(1, end));
+        return Err(Refusal::NoRoom(1, end));
     }
     put_segment(
         ids,
@@ -148,11 +143,11 @@ pub fn write_positional_segment(
         positions,
         out,
         Offsets {
-            names: names,
-            metadata: metadata,
-            lists: lists,
-            end: end,
+            names,
+            metadata,
+            lists,
+            end,
         },
     );
-    Written::Length(end)
+    Ok(end)
 }

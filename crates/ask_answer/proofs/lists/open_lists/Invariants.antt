@@ -1,10 +1,8 @@
-use Prim.Native.Nat.{◌-◌, ◌≤◌}
+use mathlib.Core.Path.{◌≡◌}
+use lib.ListN.{length}
+use Rattle.ask_walk.specs.Steps.{cursors_in}
 use Rattle.ask_answer.specs.Steps.{Heads}
 use Rattle.ask_answer.proofs.lists.open_lists.Given as goal
 
 abbrev pub invariant-loop-k : goal.invariant-loop-k
-invariant-loop-k l =
-    (l.k ≤ l.m) × Heads l.bytes l.k l.start l.df l.at l.count l.remaining l.doc
-
-abbrev pub decreases-loop-k : goal.decreases-loop-k
-decreases-loop-k l = l.m - l.k
+invariant-loop-k l = (length l.lists ≡ 128) × Heads l.bytes l.k l.names.list (cursors_in l.lists)

@@ -1,64 +1,61 @@
+use Rattle.std.specs.Prelude.{Ok}
 use mathlib.Core.Path.{◌≡◌, refl}
 use mathlib.Core.Bool.{false}
-use native.Mathlib.Omega.{arith}
-use borrow.Author.Rules.{rules}
-use Rattle.segment.specs.declared.checked.Checked.TheVariants as check
-use Rattle.ask_names.specs.Tables.{list_in, lists_decoded}
+use lib.ListN.{take}
+use Rattle.std.proofs.lemmas.Result.{err_from_is_err_and}
+use Rattle.calls.proofs.Kept.{past_none}
+use Rattle.ask_names.specs.Lists.{lists_decoded}
 use Rattle.ask_names.proofs.Leads.{led_slots}
 use Rattle.ask_answer.proofs.Led.{answered_led}
-use Rattle.ask_answer.proofs.Any.{any_inside, any_long, any_below, any_slots, any_kept}
+use Rattle.ask_answer.proofs.Any.{any_few, any_inside, any_below, any_room, any_slots, any_kept}
 use Rattle.ask_answer.proofs.Own.{names_refused, known_passed, names_absent, names_found}
 use Rattle.ask_answer.proofs.names.answer_names.Goals as goal
-use Rattle.ask_answer.proofs.names.answer_names.Goals.{In_default}
+use Rattle.ask_answer.proofs.names.answer_names.Goals.{In_ok-check_lists}
 
 -- the lists were decoded, or are known to
-seen : (c : In_default) → let a = c.args in
-    a.sure ≡ false → check.Passed ≡ lists_decoded a.bytes.now a.at a.named.different
-    (list_in a.entry.now a.start.now a.end.now a.df.now a.checksum.now)
-seen c = rw c.in_default.is at c.check_lists.ensures
+seen : (c : In_ok-check_lists) → let a = c.args in
+    a.sure ≡ false → (Ok tt) ≡ lists_decoded a.bytes.now a.at (take a.names.now.different a.names.now.list)
+seen c = rw c.in_ok-check_lists.was at c.check_lists.ensures
 
 pub check_lists-requires : goal.check_lists-requires
-check_lists-requires c =
-    let p = c.requires in
-    (any_inside p, (any_long p).1, (any_long p).2)
+check_lists-requires c = any_inside c.requires
 
-pub returns-in-Refused : goal.returns-in-Refused
-returns-in-Refused c =
-    record {
+pub shared_ref_as_front-check_lists : goal.shared_ref_as_front-check_lists
+shared_ref_as_front-check_lists c = any_few c.requires
+
+pub returns-in_err-check_lists : goal.returns-in_err-check_lists
+returns-in_err-check_lists c =
+    let p = err_from_is_err_and c.from_residual.result c.from_residual.ensures.1 in
+    rw (p.1, p.2)
+    (record {
       kept = refl;
-      plain = λ q known. names_refused q (rw c.in-Refused.is at c.check_lists.ensures) _;
-    }
+      plain = λ q known. names_refused q (rw c.in_err-check_lists.was at c.check_lists.ensures) _;
+    })
 
-pub returns-then-named : goal.returns-then-named
-returns-then-named c =
+pub returns-then-names : goal.returns-then-names
+returns-then-names c =
     record {
-      kept = record { room = omega arith; same_length = refl; rest = refl };
-      plain = λ q known. names_absent q (known_passed q _ (seen (goal.at.returns-then-named c).In_default) known) c.if-named.true _;
+      kept = past_none _;
+      plain = λ q known.
+          names_absent q (known_passed q _ (seen (goal.at.returns-then-names c).In_ok-check_lists) known) c.if-names.true _;
     }
 
 pub lead_with_rarest-requires : goal.lead_with_rarest-requires
-lead_with_rarest-requires c =
-    let p = c.requires in
-    let s = any_slots p c.if-named.false in
-    let l = any_long p in
-    (s.0.few, s.1, s.2, l.0, l.1, l.2, l.3)
+lead_with_rarest-requires c = let s = any_slots c.requires c.if-names.false in (any_room c.requires, s.1, s.2)
 
 pub answer_lists-requires : goal.answer_lists-requires
 answer_lists-requires c =
     let p = c.requires in
-    let s = any_slots p c.if-named.false in
+    let s = any_slots p c.if-names.false in
     let led = c.lead_with_rarest.ensures in
-    (led_slots led.is_term led.names s.0 s.2 (any_below p c.if-named.false), s.1, s.2)
-
-pub shape_of-ids : goal.shape_of-ids
-shape_of-ids c = search rules
+    (led_slots led s.0 s.2 (any_below p c.if-names.false), rw led.different s.1, rw led.different s.2)
 
 pub returns : goal.returns
 returns c =
-    let a = c.args in
-    let led = c.lead_with_rarest.ensures in
-    let v = answered_led a.bytes.now led c.answer_lists.ensures in
+    let v = answered_led c.args.bytes.now c.lead_with_rarest.ensures c.answer_lists.ensures in
     record {
-      kept = any_kept c.requires c.if-named.false v;
-      plain = λ q known. names_found q (known_passed q a.sure (seen (goal.at.returns c).In_default) known) c.if-named.false led.is_term v;
+      kept = any_kept c.requires c.if-names.false v;
+      plain = λ q known.
+          names_found q (known_passed q c.args.sure (seen (goal.at.returns c).In_ok-check_lists) known) c.if-names.false
+          c.lead_with_rarest.ensures.is_term v;
     }

@@ -5,8 +5,8 @@ use Rattle.ask_match.proofs.ordered.ordered_here.Given as goal
 
 abbrev pub invariant-loop-i : goal.invariant-loop-i
 invariant-loop-i l =
-    (l.i ≤ l.n) × (l.start < 2 ^ 32) × (l.target ≤ 2 ^ 32)
-    × Walk l.n l.window (among l.bytes (positions_in l.initial.at l.initial.remaining l.initial.pos)) l.bytes (positions_in l.at l.remaining l.pos) l.start l.target l.i
+    (l.start < 2 ^ 32) × (l.target ≤ 2 ^ 32)
+    × Walk l.n l.window (among l.bytes (positions_in l.initial.cursors)) l.bytes (positions_in l.cursors) l.start l.target l.i
 
 abbrev pub decreases-loop-i : goal.decreases-loop-i
 decreases-loop-i l = (2 ^ 32 - l.start) * 129 + (128 - l.i)

@@ -1,4 +1,4 @@
-use mathlib.Core.Path.{refl, ap}
+use mathlib.Core.Path.{ap}
 use Prim.Native.Nat.{◌^◌, ◌<◌}
 use lib.ListN.{length}
 use native.Mathlib.Omega.{arith}
@@ -12,31 +12,28 @@ use Rattle.ask_match.proofs.pass.pass.Goals.{Start}
 few : (c : Start) → length (positions_from c.args.bytes.now c.args.from) < 2 ^ 32
 few c = let p = c.args.from in omega (arith, from_few c.args.bytes.now p.remaining p.at p.pos.0)
 
-pub loop-c-init : goal.loop-c-init
-loop-c-init c = (refl, omega arith, omega arith)
-
 pub returns-then-target-wide : goal.returns-then-target-wide
 returns-then-target-wide c =
-    let i = c.loop-c.invariant in
+    let i = c.loop-to.invariant in
     record {
-      holds = seek_stop _ (ahead _ c.loop-c.c) i.0 (omega arith);
+      holds = seek_stop _ (ahead _ c.loop-to.to) i.0 (omega arith);
       reached = λ h. omega arith;
       count = i.2;
       few = few (goal.at.returns-then-target-wide c).Start;
     }
 
-pub loop-c-preserved : goal.loop-c-preserved
-loop-c-preserved c =
-    let i = c.loop-c.invariant in
-    let a = ahead c.args.bytes.now c.loop-c.c in
-    let r = c.advance-c.ensures.holds in
+pub loop-to-preserved : goal.loop-to-preserved
+loop-to-preserved c =
+    let i = c.loop-to.invariant in
+    let a = ahead c.args.bytes.now c.loop-to.to in
+    let r = c.advance-to.ensures.holds in
     (seek_next _ a i.0 (omega arith) r, omega arith, omega (arith, ap length r, rest_length a (omega arith)))
 
 pub returns : goal.returns
 returns c =
-    let i = c.loop-c.invariant in
+    let i = c.loop-to.invariant in
     record {
-      holds = seek_end _ (ahead _ c.loop-c.c) i.0 (omega arith);
+      holds = seek_end _ (ahead _ c.loop-to.to) i.0 (omega arith);
       reached = λ h. absurd (omega arith);
       count = i.2;
       few = few (goal.at.returns c).Start;

@@ -1,12 +1,12 @@
-use Prim.Native.Nat.{◌+◌, ◌-◌, ◌*◌, ◌^◌, ◌≤◌, ◌<◌}
+use Prim.Native.Nat.{◌+◌, ◌-◌, ◌*◌, ◌^◌, ◌<◌}
 use Rattle.ask_match.specs.Steps.{positions_in, stands}
 use Rattle.ask_match.proofs.Leap.{Leap}
 use Rattle.ask_match.proofs.phrase.phrase_here.Given as goal
 
 abbrev pub invariant-loop-i : goal.invariant-loop-i
 invariant-loop-i l =
-    (l.i ≤ l.n) × (l.start < 2 ^ 32)
-    × Leap l.n (stands l.bytes (positions_in l.initial.at l.initial.remaining l.initial.pos)) (stands l.bytes (positions_in l.at l.remaining l.pos)) l.start l.i
+    (l.start < 2 ^ 32)
+    × Leap l.n (stands l.bytes (positions_in l.initial.cursors)) (stands l.bytes (positions_in l.cursors)) l.start l.i
 
 abbrev pub decreases-loop-i : goal.decreases-loop-i
 decreases-loop-i l = (2 ^ 32 - l.start) * 129 + (128 - l.i)

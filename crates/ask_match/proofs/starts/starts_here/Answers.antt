@@ -1,8 +1,6 @@
 use Prim.Native.Nat.{◌+◌, ◌<◌}
-use mathlib.Core.Path.{ap}
 use borrow.Author.Rules.{rules}
 use native.Mathlib.Omega.{arith}
-use Rattle.read_cursors.specs.declared.positions.Positions.{Positions}
 use Rattle.ask_match.proofs.Counting.{count_start, count_ok, count_over, count_hit, count_end, count_full}
 use Rattle.ask_match.proofs.Places.{gone, moved, met, over}
 use Rattle.ask_match.proofs.starts.starts_here.Goals as goal
@@ -20,9 +18,6 @@ returns-then-d-eq0 c =
     let l = c.loop-count in
     count_end l.invariant.2 (omega arith) (gone l.start c.seek_in-d.ensures (search rules))
 
-pub overflow_add-count : goal.overflow_add-count
-overflow_add-count c = omega (arith, c.cursor-first.type_inv)
-
 pub loop-count-preserved-then-i-n : goal.loop-count-preserved-then-i-n
 loop-count-preserved-then-i-n c =
     let l = c.loop-count in
@@ -30,20 +25,11 @@ loop-count-preserved-then-i-n c =
     let taken = count_ok l.invariant.2 (moved l.start so) (met l.start so (omega arith) (omega arith)) in
     (omega arith, omega (arith, c.seek_in-d.type_inv), count_hit taken (omega arith) (omega arith))
 
-pub loop-count-smaller-else-i-n : goal.loop-count-smaller-else-i-n
-loop-count-smaller-else-i-n c = omega (arith, c.requires.1)
-
 pub loop-count-preserved-else-i-n : goal.loop-count-preserved-else-i-n
 loop-count-preserved-else-i-n c =
     let l = c.loop-count in
     let so = c.seek_in-d.ensures in
     (omega arith, l.invariant.1, count_ok l.invariant.2 (moved l.start so) (met l.start so (omega arith) (omega arith)))
-
-pub overflow_sub-start : goal.overflow_sub-start
-overflow_sub-start c = omega (arith, higher c)
-
-pub loop-count-smaller : goal.loop-count-smaller
-loop-count-smaller c = omega (arith, higher c)
 
 pub loop-count-preserved : goal.loop-count-preserved
 loop-count-preserved c =
@@ -56,6 +42,4 @@ loop-count-preserved c =
     )
 
 pub returns : goal.returns
-returns c =
-    let all = ap (λ (p : Positions). p.remaining) c.cursor-first.ensures in
-    count_full _ _ c.loop-count.invariant.2 (omega arith) (omega (arith, all))
+returns c = count_full _ _ c.loop-count.invariant.2 (omega arith) (omega arith)

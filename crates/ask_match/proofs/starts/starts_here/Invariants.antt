@@ -6,7 +6,7 @@ use Rattle.ask_match.proofs.starts.starts_here.Given as goal
 abbrev pub invariant-loop-count : goal.invariant-loop-count
 invariant-loop-count l =
     (l.i < l.n) × (l.start < 2 ^ 33)
-    × Counting l.n (stands l.bytes (positions_in l.initial.at l.initial.remaining l.initial.pos)) (stands l.bytes (positions_in l.at l.remaining l.pos)) l.count l.start l.i
+    × Counting l.n (stands l.bytes (positions_in l.initial.cursors)) (stands l.bytes (positions_in l.cursors)) l.count l.start l.i
 
 abbrev pub decreases-loop-count : goal.decreases-loop-count
 decreases-loop-count l =

@@ -10,20 +10,16 @@ use Rattle.ask_names.proofs.question.check_question.Goals as goal
 pub returns-then-text-gt-LIMIT : goal.returns-then-text-gt-LIMIT
 returns-then-text-gt-LIMIT c =
     let t = c.args in
-    rw c.too_large.ensures
-    (ap checked
-    (question_large t.text.now t.ends.now (⊎_elim (λ w. inl (omega arith)) (λ w. inr (omega (arith, ltb-true, w.1))) c.then-text-gt-LIMIT.either)))
+    ap checked
+    (question_large t.text.now t.ends.now
+    (⊎_elim (λ w. inl (omega arith)) (λ w. inr (omega (arith, ltb-true, w.1))) c.then-text-gt-LIMIT.either))
 
 pub returns-then-not-ends_fit : goal.returns-then-not-ends_fit
 returns-then-not-ends_fit c =
     let t = c.args in
-    rw c.list_shape.ensures
-    (ap checked
+    ap checked
     (question_shape t.text.now t.ends.now (omega arith) (omega (arith, ltb-false))
-    (sym c.ends_fit.ensures ∙ c.if-not-ends_fit.true)))
-
-pub check_texts-requires : goal.check_texts-requires
-check_texts-requires c = sym c.ends_fit.ensures ∙ c.if-not-ends_fit.false
+    (sym c.ends_fit.ensures ∙ c.if-not-ends_fit.true))
 
 pub returns : goal.returns
 returns c =

@@ -1,38 +1,37 @@
+use Rattle.std.specs.Prelude.{Ok}
 use mathlib.Core.Path.{sym, ◌∙◌}
-use mathlib.Core.List.{List}
-use Prim.Native.Nat.{ℕ}
 use native.Mathlib.Omega.{arith}
 use lib.ListN.{length}
-use Rattle.segment.specs.declared.checked.Checked.TheVariants as check
-use Rattle.segment.specs.Records.{Posting}
-use Rattle.ask_answer.specs.Steps.{held_list}
-use Rattle.ask_ranked.specs.Steps.{RoomChecked}
-use Rattle.ask_ranked.proofs.Stored.{lists_short, some_room, lists_ranked}
+use Rattle.std.proofs.lemmas.Result.{err_from_is_err_and}
+use Rattle.ask_ranked.specs.Steps.{ListsCounted, RoomChecked}
+use Rattle.ask_ranked.proofs.Stored.{lists_counted, lists_short, some_room, lists_ranked}
 use Rattle.ask_ranked.proofs.lists.rank_lists.Goals as goal
-use Rattle.ask_ranked.proofs.lists.rank_lists.Goals.{After-walk_ranked-found, Start}
+use Rattle.ask_ranked.proofs.lists.rank_lists.Goals.{After-walk_starts-found}
 
-abbrev lists : Start → ℕ → List Posting
-lists s = held_list s.args.bytes.now s.args.start.now s.args.df.now
+room : (w : After-walk_starts-found) → let a = w.args in
+    RoomChecked a.bytes.now a.names.now (length a.ids.now) (length a.counts.now) (Ok tt)
+room w own ns f = sym w.in_ok-check_room.was ∙ w.check_room.ensures own ns f
 
-room : (w : After-walk_ranked-found) → let a = w.args in
-    RoomChecked (held_list w.args.bytes.now w.args.start.now w.args.df.now) a.n a.slot.now a.m a.wanted.now (length a.ids.now) (length a.counts.now) check.Passed
-room w own ns f = sym w.in_default.is ∙ w.check_room.ensures own ns f
+walked : (w : After-walk_starts-found) → let a = w.args in
+    let f = w.walk_starts-found in
+    ListsCounted a.bytes.now a.names.now a.ids.now a.counts.now f.result f.new.ids f.new.counts
+walked w = lists_counted w.args.bytes.now w.args.names.now w.requires.1 w.open_lists.ensures w.walk_starts-found.ensures
 
-pub returns-in-Refused : goal.returns-in-Refused
-returns-in-Refused c =
+pub returns-in_err-check_room : goal.returns-in_err-check_room
+returns-in_err-check_room c =
     let a = c.args in
-    lists_short (lists (goal.at.returns-in-Refused c).Start) a.n a.slot.now a.m a.wanted.now a.ids.now a.counts.now
-    (rw c.in-Refused.is at c.check_room.ensures)
+    let p = err_from_is_err_and c.from_residual.result c.from_residual.ensures.1 in
+    rw (p.1, p.2) (lists_short a.bytes.now a.names.now a.ids.now a.counts.now (rw c.in_err-check_room.was at c.check_room.ensures))
 
 pub rank-requires : goal.rank-requires
 rank-requires c =
     let a = c.args in
-    let r = some_room (lists (goal.at.rank-requires c).Start) a.n a.slot.now a.m a.wanted.now a.ids.now a.counts.now (room (goal.at.rank-requires c).After-walk_ranked-found)
-    c.walk_ranked-found.ensures c.requires.3 in
-    (omega (arith, r.0, c.walk_ranked-found.auto), omega (arith, r.1, c.walk_ranked-found.auto))
+    let w = (goal.at.rank-requires c).After-walk_starts-found in
+    let r = some_room a.bytes.now a.names.now a.ids.now a.counts.now (room w) (walked w) c.requires.3 in
+    (omega (arith, r.0, c.walk_starts-found.auto), omega (arith, r.1, c.walk_starts-found.auto))
 
 pub returns : goal.returns
 returns c =
     let a = c.args in
-    lists_ranked (lists (goal.at.returns c).Start) a.n a.slot.now a.m a.wanted.now a.ids.now a.counts.now (room (goal.at.returns c).After-walk_ranked-found)
-    c.walk_ranked-found.ensures c.rank.ensures
+    let w = (goal.at.returns c).After-walk_starts-found in
+    lists_ranked a.bytes.now a.names.now a.ids.now a.counts.now (room w) (walked w) c.rank.ensures

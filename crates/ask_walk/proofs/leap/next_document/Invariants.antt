@@ -6,7 +6,7 @@ use Rattle.ask_walk.proofs.leap.next_document.Given as goal
 abbrev pub invariant-loop-here : goal.invariant-loop-here
 invariant-loop-here l =
     (l.k < l.m) × (l.next ≤ 2 ^ 32)
-    × Leaping l.bytes l.m l.from (cursors_in l.initial.at l.initial.count l.initial.remaining l.initial.doc) (cursors_in l.at l.count l.remaining l.doc) l.next l.k
+    × Leaping l.bytes l.m l.from (cursors_in l.initial.lists) (cursors_in l.lists) l.next l.k
 
 abbrev pub decreases-loop-here : goal.decreases-loop-here
 decreases-loop-here l = (2 ^ 32 + 1 - l.next) * 129 + (128 - l.k)

@@ -1,4 +1,5 @@
 -- What the writer and the search ensure, put together by proofs/Claimed.antt.
+use Rattle.std.proofs.lemmas.Result.{err_from_is_err_and}
 use mathlib.Core.Path.{refl, sym}
 use native.Mathlib.Omega.{arith}
 use lib.Seq.{length-take-le}
@@ -31,26 +32,25 @@ typed c =
 pub slice_bounds-ask-end : goal.slice_bounds-ask-end
 slice_bounds-ask-end c =
     bytes_fit (handed_in (goal.at.slice_bounds-ask-end c).After-write_positional_segment) c.args.out.now (typed (goal.at.slice_bounds-ask-end c).After-write_positional_segment)
-    (wrote_bytes _ _ c.write_positional_segment.ensures c.in-Length.is)
+    (wrote_bytes _ _ c.write_positional_segment.ensures c.in_ok-written.was)
 
-pub slice_bounds-ask-end-in-Length : goal.slice_bounds-ask-end-in-Length
-slice_bounds-ask-end-in-Length c = sym (length-take-le _ _ (slice_bounds-ask-end c))
-
-pub returns-in-Length : goal.returns-in-Length
-returns-in-Length c =
+pub returns : goal.returns
+returns c =
     let a = c.args in
     record {
       demand =
-          asked_claim (handed_in (goal.at.returns-in-Length c).After-write_positional_segment) a.out.now (typed (goal.at.returns-in-Length c).After-write_positional_segment) (wrote_bytes _ _ c.write_positional_segment.ensures c.in-Length.is)
+          asked_claim (handed_in (goal.at.returns c).After-write_positional_segment) a.out.now (typed (goal.at.returns c).After-write_positional_segment) (wrote_bytes _ _ c.write_positional_segment.ensures c.in_ok-written.was)
           a.question a.name.now a.name_ends.now a.other.now a.found.now c.ask-answer.ensures;
-      called = (promised (handed_in (goal.at.returns-in-Length c).After-write_positional_segment) a.out.now c.write_positional_segment.ensures c.in-Length.is, c.ask-answer.ensures);
+      called = (promised (handed_in (goal.at.returns c).After-write_positional_segment) a.out.now c.write_positional_segment.ensures c.in_ok-written.was, c.ask-answer.ensures);
     }
 
-pub returns-in-Refused : goal.returns-in-Refused
-returns-in-Refused c =
-    let a = c.args in
+pub returns-in_err-written : goal.returns-in_err-written
+returns-in_err-written c =
+    let p = err_from_is_err_and c.from_residual.result c.from_residual.ensures.1 in
+    rw (p.1, p.2)
+    (let a = c.args in
     record {
       demand =
-          refused_claim (handed_in (goal.at.returns-in-Refused c).After-write_positional_segment) a.out.now c.write_positional_segment.ensures c.in-Refused.is _ _ _ a.found.now;
-      called = (promised (handed_in (goal.at.returns-in-Refused c).After-write_positional_segment) a.out.now c.write_positional_segment.ensures c.in-Refused.is, refl);
-    }
+          refused_claim (handed_in (goal.at.returns-in_err-written c).After-write_positional_segment) a.out.now c.write_positional_segment.ensures c.in_err-written.was _ _ _ a.found.now;
+      called = (promised (handed_in (goal.at.returns-in_err-written c).After-write_positional_segment) a.out.now c.write_positional_segment.ensures c.in_err-written.was, refl);
+    })

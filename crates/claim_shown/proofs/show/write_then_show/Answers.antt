@@ -1,4 +1,5 @@
 -- What the writer and the sheet ensure, put together by proofs/Claimed.antt.
+use Rattle.std.proofs.lemmas.Result.{err_from_is_err_and}
 use mathlib.Core.Path.{refl}
 use native.Mathlib.Omega.{arith}
 use lib.Seq.{length-take-le}
@@ -33,27 +34,26 @@ typed c =
 pub slice_bounds-bar_sheet-end : goal.slice_bounds-bar_sheet-end
 slice_bounds-bar_sheet-end c =
     let out = c.args.out.now in
-    let wrote = wrote_bytes (handed_in (goal.at.slice_bounds-bar_sheet-end c).After-write_positional_segment) out c.write_positional_segment.ensures c.in-Length.is in
+    let wrote = wrote_bytes (handed_in (goal.at.slice_bounds-bar_sheet-end c).After-write_positional_segment) out c.write_positional_segment.ensures c.in_ok-written.was in
     omega (arith, bytes_fit (handed_in (goal.at.slice_bounds-bar_sheet-end c).After-write_positional_segment) out (typed (goal.at.slice_bounds-bar_sheet-end c).After-write_positional_segment) wrote)
 
-pub slice_bounds-bar_sheet-end-in-Length : goal.slice_bounds-bar_sheet-end-in-Length
-slice_bounds-bar_sheet-end-in-Length c = search (rules, length-take-le, slice_bounds-bar_sheet-end c)
-
-pub returns-in-Length : goal.returns-in-Length
-returns-in-Length c =
+pub returns : goal.returns
+returns c =
     let a = c.args in
     record {
       claim =
-          shown_claim (handed_in (goal.at.returns-in-Length c).After-write_positional_segment) a.out.now (typed (goal.at.returns-in-Length c).After-write_positional_segment)
-          (wrote_bytes (handed_in (goal.at.returns-in-Length c).After-write_positional_segment) a.out.now c.write_positional_segment.ensures c.in-Length.is)
+          shown_claim (handed_in (goal.at.returns c).After-write_positional_segment) a.out.now (typed (goal.at.returns c).After-write_positional_segment)
+          (wrote_bytes (handed_in (goal.at.returns c).After-write_positional_segment) a.out.now c.write_positional_segment.ensures c.in_ok-written.was)
           a.id.0 c.bar_sheet-answer.ensures;
-      called = (promised (handed_in (goal.at.returns-in-Length c).After-write_positional_segment) a.out.now c.write_positional_segment.ensures c.in-Length.is, c.bar_sheet-answer.ensures);
+      called = (promised (handed_in (goal.at.returns c).After-write_positional_segment) a.out.now c.write_positional_segment.ensures c.in_ok-written.was, c.bar_sheet-answer.ensures);
     }
 
-pub returns-in-Refused : goal.returns-in-Refused
-returns-in-Refused c =
-    let a = c.args in
+pub returns-in_err-written : goal.returns-in_err-written
+returns-in_err-written c =
+    let p = err_from_is_err_and c.from_residual.result c.from_residual.ensures.1 in
+    rw (p.1, p.2)
+    (let a = c.args in
     record {
-      claim = (out_alone (handed_in (goal.at.returns-in-Refused c).After-write_positional_segment) a.out.now c.write_positional_segment.ensures c.in-Refused.is, refl);
-      called = (promised (handed_in (goal.at.returns-in-Refused c).After-write_positional_segment) a.out.now c.write_positional_segment.ensures c.in-Refused.is, refl);
-    }
+      claim = (out_alone (handed_in (goal.at.returns-in_err-written c).After-write_positional_segment) a.out.now c.write_positional_segment.ensures c.in_err-written.was, refl);
+      called = (promised (handed_in (goal.at.returns-in_err-written c).After-write_positional_segment) a.out.now c.write_positional_segment.ensures c.in_err-written.was, refl);
+    })

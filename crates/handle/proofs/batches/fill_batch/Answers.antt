@@ -1,33 +1,20 @@
-use lib.ListN.{length-set}
-use Rattle.read_terms.proofs.Finding.{own_entry}
-use Rattle.handle.proofs.Sure.{filled_none, filled_more, filled_all}
-use borrow.Author.Rules.{rules}
 use native.Mathlib.Omega.{arith}
+use Rattle.std.proofs.Common.{below_more, get_or-set_other, get_or-set_same}
+use Prim.Native.Nat.{◌<◌}
+use mathlib.Core.Path.{◌≡◌}
+use lib.ListN.{length}
+use Rattle.read_terms.proofs.Finding.{own_entry}
+use Rattle.handle.proofs.Lists.{decoded}
 use Rattle.handle.proofs.batches.fill_batch.Goals as goal
 
-pub loop-k-init : goal.loop-k-init
-loop-k-init c = (search rules, search rules, search rules, search rules, search rules, filled_none)
-
-pub overflow_add-from : goal.overflow_add-from
-overflow_add-from c = omega (arith, c.requires.1)
-
-pub entry_list-list-requires : goal.entry_list-list-requires
-entry_list-list-requires c =
-    let p = c.requires in
-    own_entry p.0 _ (omega (arith, p.1))
+pub entry_list-requires : goal.entry_list-requires
+entry_list-requires c = own_entry c.requires.0 _ (omega (arith, c.requires.1))
 
 pub loop-k-preserved : goal.loop-k-preserved
 loop-k-preserved c =
-    let t = c.requires.2 in
-    let i = c.loop-k.invariant in (
-      omega arith,
-      simp length-set i.1,
-      simp length-set i.2,
-      simp length-set i.3,
-      simp length-set i.4,
-      filled_more i.5 (omega (arith, i.1, t.starts_long)) (omega (arith, i.2, t.ends_long)) (omega (arith, i.3, t.dfs_long))
-          (omega (arith, i.4, t.checksums_long)) c.entry_list-list.ensures,
-    )
+    below_more _ _
+    (λ j h. let ne : j ≡ c.loop-k.k → ⊥ = (λ e. omega arith) in rw get_or-set_other (c.loop-k.invariant j h))
+    (let lt : c.loop-k.k < length c.loop-k.lists = omega arith in rw get_or-set_same c.entry_list.ensures)
 
 pub returns : goal.returns
-returns c = filled_all c.loop-k.invariant.5 (omega arith)
+returns c = record { each = λ k h s is. decoded _ _ is (c.loop-k.invariant k (omega arith)) }

@@ -1,4 +1,4 @@
-use mathlib.Core.Path.{refl, sym, ap, ◌∙◌}
+use mathlib.Core.Path.{sym, ap, ◌∙◌}
 use native.Mathlib.Omega.{arith}
 use native.Mathlib.Numerals.{add-one}
 use lib.ListN.{length, length-set}
@@ -6,24 +6,9 @@ use lib.Seq.{sets}
 use Rattle.leb128.proofs.Shortest.{last_byte, more_bytes}
 use Rattle.leb128.proofs.varint.encode_u32.Goals as goal
 
-pub loop-rest-init : goal.loop-rest-init
-loop-rest-init c = (omega arith, refl, refl, refl)
-
-pub overflow_add-out : goal.overflow_add-out
-overflow_add-out c = omega arith
-
-pub overflow_cast-out : goal.overflow_cast-out
-overflow_cast-out c = omega arith
-
 pub bounds-out-i : goal.bounds-out-i
 bounds-out-i c =
     omega (arith, ap length (more_bytes c.loop-rest.rest (omega arith) (omega arith)))
-
-pub overflow_add-i : goal.overflow_add-i
-overflow_add-i c = omega arith
-
-pub loop-rest-smaller : goal.loop-rest-smaller
-loop-rest-smaller c = omega arith
 
 pub loop-rest-preserved : goal.loop-rest-preserved
 loop-rest-preserved c =
@@ -35,18 +20,9 @@ loop-rest-preserved c =
       rw (add-one l.i) (ap (sets l.out l.i) (sym e) ∙ l.invariant.3),
     )
 
-pub overflow_cast-out-2 : goal.overflow_cast-out-2
-overflow_cast-out-2 c = omega arith
-
 pub bounds-out-i-2 : goal.bounds-out-i-2
 bounds-out-i-2 c =
     omega (arith, ap length (last_byte c.loop-rest.rest (omega arith)))
-
-pub overflow_add-result : goal.overflow_add-result
-overflow_add-result c = omega arith
-
-pub shape_of-out : goal.shape_of-out
-shape_of-out c = simp length-set (omega arith)
 
 pub returns : goal.returns
 returns c =

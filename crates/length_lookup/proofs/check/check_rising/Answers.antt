@@ -1,12 +1,5 @@
-use native.Mathlib.Omega.{arith}
-use Rattle.length_lookup.proofs.Checking.{ids_none, ids_start, ids_next, ids_stop, ids_end}
+use Rattle.length_lookup.proofs.Checking.{ids_start, ids_next, ids_stop, ids_end}
 use Rattle.length_lookup.proofs.check.check_rising.Goals as goal
-
-pub returns-then-ids-eq0 : goal.returns-then-ids-eq0
-returns-then-ids-eq0 c = ids_none c.args.ids.now c.if-ids-eq0.true
-
-pub bounds-ids-0 : goal.bounds-ids-0
-bounds-ids-0 c = omega arith
 
 pub loop-i-init : goal.loop-i-init
 loop-i-init c = ids_start c.args.ids.now
@@ -14,8 +7,7 @@ loop-i-init c = ids_start c.args.ids.now
 pub returns-then-here-before : goal.returns-then-here-before
 returns-then-here-before c =
     let ids = c.args.ids.now in
-    rw c.ids_not_rising.ensures
-    (ids_stop ids c.loop-i.i _ c.loop-i.invariant c.loop-i-test.true c.if-here-before.true)
+    ids_stop ids c.loop-i.i _ c.loop-i.invariant c.loop-i-test.true c.if-here-before.true
 
 pub loop-i-preserved : goal.loop-i-preserved
 loop-i-preserved c =

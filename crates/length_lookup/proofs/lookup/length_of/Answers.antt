@@ -1,30 +1,27 @@
 -- Where the checks pass the ids rise, which the writer's lookup rests on.
-use mathlib.Core.Path.{◌≡◌, sym, ◌∙◌}
-use Rattle.segment.specs.Results.{ok}
+use Rattle.std.proofs.lemmas.Result.{err_from_is_err_and}
+use Rattle.std.specs.Prelude.{Ok}
+use mathlib.Core.Path.{◌≡◌}
 use Rattle.segment.proofs.Accepted.{passed_ok, refused_is}
 use Rattle.write_lookup.proofs.Searching.{rises_by_place}
 use Rattle.length_lookup.specs.Lookup.{check_ids_and_lengths}
 use Rattle.length_lookup.proofs.Checking.{passed_gives}
-use Rattle.length_lookup.proofs.Looking.{refused_on, known_on, absent_on}
+use Rattle.length_lookup.proofs.Looking.{refused_on, found_on}
 use Rattle.length_lookup.proofs.lookup.length_of.Goals as goal
-use Rattle.length_lookup.proofs.lookup.length_of.Goals.{In_default}
+use Rattle.length_lookup.proofs.lookup.length_of.Goals.{In_ok-check_ids_and_lengths}
 
-passes : (c : In_default) → check_ids_and_lengths c.args.ids.now c.args.lengths.now ≡ ok tt
-passes c = (passed_ok _ (sym c.in_default.is ∙ c.check_ids_and_lengths.ensures)).1
+passes : (c : In_ok-check_ids_and_lengths) → check_ids_and_lengths c.args.ids.now c.args.lengths.now ≡ Ok tt
+passes c = (passed_ok _ c.in_ok-check_ids_and_lengths.ensures).1
 
-pub returns-in-Refused : goal.returns-in-Refused
-returns-in-Refused c =
-    rw (refused_on _ _ _ (refused_is _ (sym c.in-Refused.is ∙ c.check_ids_and_lengths.ensures)))
+pub returns-in_err-check_ids_and_lengths : goal.returns-in_err-check_ids_and_lengths
+returns-in_err-check_ids_and_lengths c =
+    let p = err_from_is_err_and c.from_residual.result c.from_residual.ensures.1 in
+    rw (p.1, p.2) (rw (refused_on _ _ _ (refused_is _ c.in_err-check_ids_and_lengths.ensures)))
 
 pub known_len-requires : goal.known_len-requires
 known_len-requires c =
     let (side, rises) = passed_gives _ _ (passes c) in
     (rises_by_place c.args.ids.now rises, side.same)
 
-pub returns-in-Known : goal.returns-in-Known
-returns-in-Known c =
-    known_on _ _ _ (passes (goal.at.returns-in-Known c).In_default) (rw c.in-Known.is at c.known_len.ensures)
-
-pub returns-in-Unknown : goal.returns-in-Unknown
-returns-in-Unknown c =
-    absent_on _ _ _ (passes (goal.at.returns-in-Unknown c).In_default) (rw c.in-Unknown.is at c.known_len.ensures)
+pub returns : goal.returns
+returns c = found_on _ _ _ (passes (goal.at.returns c).In_ok-check_ids_and_lengths) _ c.known_len.ensures

@@ -1,36 +1,24 @@
+use Rattle.std.specs.Prelude.{Err, Ok}
 use mathlib.Core.Path.{◌≡◌, refl, sym, ap, ◌∙◌}
-use mathlib.Core.List.{List}
-use Prim.Native.Nat.{ℕ}
 use native.Mathlib.Omega.{arith}
-use Rattle.midi_read.specs.declared.track.Hit.{Hit}
-use Rattle.midi_read.specs.declared.track.Reader.{Reader}
-use Rattle.midi_read.specs.declared.track.Stepped.TheVariants.{Sounds, Silent, Ends}
+use Rattle.std.proofs.lemmas.Grind.{common_steps}
+use Rattle.midi_read.specs.declared.track.Step.TheVariants.{Sounds, Silent, Ends}
 use Rattle.midi_read.specs.Files.{grid, read_event}
-use Rattle.midi_read.specs.Promise.{event_answer}
 use Rattle.midi_read.specs.Walks.{walk}
 use Rattle.midi_read.proofs.Walks.{past_hit, past_silent, walk_hit, walk_far, walk_silent, walk_end, walk_open, walk_refused}
 use Rattle.midi_count.specs.Tallies.{Tallies, tally}
-use Rattle.midi_count.proofs.Tallying.{up_to, postings_low, positions_low, noted_state, near_step, stops, finishes}
+use Rattle.midi_count.proofs.Tallying.{up_to, postings_low, positions_low, noted_state, near_step, stops, finishes, max_greater}
 use Rattle.midi_count.proofs.count.count.Goals as goal
-use Rattle.midi_count.proofs.count.count.Goals.{After-struct_known-1, At-loop-h, In-Ends, In-Silent}
+use Rattle.midi_count.proofs.count.count.Goals.{In-Sounds, At-loop-h, In-Ends, In-Silent}
 
-abbrev bytes : At-loop-h → List ℕ
-bytes l = l.args.s.now
+a-hit : (c : In-Sounds) → read_event c.args.s.now c.loop-h.reader ≡ Ok (Sounds c.in-Sounds.h c.in-Sounds.next)
+a-hit c = sym c.in_ok-h.ensures ∙ ap Ok c.in-Sounds.is
 
-abbrev hit : After-struct_known-1 → Hit
-hit c = c.in-Sounds.h
+a-silent : (c : In-Silent) → read_event c.args.s.now c.loop-h.reader ≡ Ok (Silent c.in-Silent.next)
+a-silent c = sym c.in_ok-h.ensures ∙ ap Ok c.in-Silent.is
 
-abbrev next : After-struct_known-1 → Reader
-next c = c.in-Sounds.next
-
-a-hit : (c : After-struct_known-1) → event_answer (read_event ((c.args.s.now)) c.loop-h.reader) ≡ Sounds (c.in-Sounds.h) (c.in-Sounds.next)
-a-hit c = sym c.step.ensures ∙ c.in-Sounds.is
-
-a-silent : (c : In-Silent) → event_answer (read_event ((c.args.s.now)) c.loop-h.reader) ≡ Silent c.in-Silent.next
-a-silent c = sym c.step.ensures ∙ c.in-Silent.is
-
-an-end : (c : In-Ends) → event_answer (read_event ((c.args.s.now)) c.loop-h.reader) ≡ Ends c.in-Ends.past
-an-end c = sym c.step.ensures ∙ c.in-Ends.is
+an-end : (c : In-Ends) → read_event c.args.s.now c.loop-h.reader ≡ Ok (Ends c.in-Ends.past)
+an-end c = sym c.in_ok-h.ensures ∙ ap Ok c.in-Ends.is
 
 pub loop-h-init : goal.loop-h-init
 loop-h-init c =
@@ -46,13 +34,12 @@ step-requires c = c.loop-h.invariant.0
 
 pub returns-then-bar-gt65535 : goal.returns-then-bar-gt65535
 returns-then-bar-gt65535 c =
-    rw c.bar_too_far.ensures
-    (stops (grid c.args.ticks c.args.steps) ((c.args.s.now)) _ _ _ _ _ _
-    (walk_far _ _ ((c.args.s.now)) c.loop-h.reader _ c.loop-h.invariant.3 (a-hit (goal.at.returns-then-bar-gt65535 c).After-struct_known-1) c.if-bar-gt65535.true))
+    stops (grid c.args.ticks c.args.steps) c.args.s.now _ _ _ _ _ _
+    (walk_far _ _ c.args.s.now c.loop-h.reader _ c.loop-h.invariant.3 (a-hit (goal.at.returns-then-bar-gt65535 c).In-Sounds) c.if-bar-gt65535.true)
 
 pub note_hit-requires : goal.note_hit-requires
 note_hit-requires c =
-    let (m, t, a) = past_hit ((c.args.s.now)) c.loop-h.reader (a-hit (goal.at.note_hit-requires c).After-struct_known-1) in
+    let (m, t, a) = past_hit c.args.s.now c.loop-h.reader (a-hit (goal.at.note_hit-requires c).In-Sounds) in
     let p = c.requires in
     let w = c.loop-h.invariant.0 in
     record {
@@ -69,49 +56,49 @@ note_hit-requires c =
 
 pub loop-h-smaller-in-Sounds : goal.loop-h-smaller-in-Sounds
 loop-h-smaller-in-Sounds c =
-    let (m, t, a) = past_hit ((c.args.s.now)) c.loop-h.reader (a-hit (goal.at.loop-h-smaller-in-Sounds c).After-struct_known-1) in
+    let (m, t, a) = past_hit c.args.s.now c.loop-h.reader (a-hit (goal.at.loop-h-smaller-in-Sounds c).In-Sounds) in
     omega (arith, m.on, m.inside)
 
 pub loop-h-preserved-in-Sounds : goal.loop-h-preserved-in-Sounds
 loop-h-preserved-in-Sounds c =
-    let (m, t, a) = past_hit ((c.args.s.now)) c.loop-h.reader (a-hit (goal.at.loop-h-preserved-in-Sounds c).After-struct_known-1) in
+    let (m, t, a) = past_hit c.args.s.now c.loop-h.reader (a-hit (goal.at.loop-h-preserved-in-Sounds c).In-Sounds) in
     let w = c.loop-h.invariant.0 in
     let g = grid c.args.ticks c.args.steps in
     let noted = c.note_hit.ensures in (
       record { small = w.small; inside = m.inside; tick = omega (arith, m.on, m.rises, w.tick) },
       postings_low noted _ (omega (arith, m.on)) c.loop-h.invariant.1,
       positions_low noted _ (omega (arith, m.on)) c.loop-h.invariant.2,
-      ap (λ (t : Tallies). walk (tally g) g ((c.args.s.now)) (c.in-Sounds.next) t) (noted_state g (c.in-Sounds.h) c.loop-h.bars noted c.greater_of-bars.ensures)
-          ∙ walk_hit (tally g) g ((c.args.s.now)) c.loop-h.reader _ c.loop-h.invariant.3 (a-hit (goal.at.loop-h-preserved-in-Sounds c).After-struct_known-1) (omega arith),
+      ap (λ (t : Tallies). walk (tally g) g c.args.s.now c.in-Sounds.next t) (noted_state g c.in-Sounds.h c.loop-h.bars noted (c.max-bars.ensures ∙ max_greater _ _))
+          ∙ walk_hit (tally g) g c.args.s.now c.loop-h.reader _ c.loop-h.invariant.3 (a-hit (goal.at.loop-h-preserved-in-Sounds c).In-Sounds) (omega arith),
     )
 
 pub loop-h-smaller : goal.loop-h-smaller
 loop-h-smaller c =
-    omega (arith, (past_silent ((c.args.s.now)) c.loop-h.reader (a-silent c)).on, (past_silent ((c.args.s.now)) c.loop-h.reader (a-silent c)).inside)
+    omega (arith, (past_silent c.args.s.now c.loop-h.reader (a-silent c)).on, (past_silent c.args.s.now c.loop-h.reader (a-silent c)).inside)
 
 pub loop-h-preserved : goal.loop-h-preserved
 loop-h-preserved c =
-    let m = past_silent ((c.args.s.now)) c.loop-h.reader (a-silent c) in
+    let m = past_silent c.args.s.now c.loop-h.reader (a-silent c) in
     let w = c.loop-h.invariant.0 in (
       record { small = w.small; inside = m.inside; tick = omega (arith, m.on, m.rises, w.tick) },
       up_to _ c.loop-h.invariant.1 (omega (arith, m.on)),
       up_to _ c.loop-h.invariant.2 (omega (arith, m.on)),
-      walk_silent _ _ ((c.args.s.now)) c.loop-h.reader _ c.loop-h.invariant.3 (a-silent c),
+      walk_silent _ _ c.args.s.now c.loop-h.reader _ c.loop-h.invariant.3 (a-silent c),
     )
 
 pub returns-then-past-s : goal.returns-then-past-s
 returns-then-past-s c =
-    finishes (grid c.args.ticks c.args.steps) ((c.args.s.now)) _ _ _ _ _ _ _
-    (walk_end _ _ ((c.args.s.now)) c.loop-h.reader _ c.loop-h.invariant.3 (an-end (goal.at.returns-then-past-s c).In-Ends) c.if-past-s.true)
+    finishes (grid c.args.ticks c.args.steps) c.args.s.now _ _ _ _ _ _ _
+    (walk_end _ _ c.args.s.now c.loop-h.reader _ c.loop-h.invariant.3 (an-end (goal.at.returns-then-past-s c).In-Ends) c.if-past-s.true)
 
 pub returns-in-Ends : goal.returns-in-Ends
 returns-in-Ends c =
-    rw c.midi_file.ensures
-    (stops (grid c.args.ticks c.args.steps) ((c.args.s.now)) _ _ _ _ _ _
-    (walk_open _ _ ((c.args.s.now)) c.loop-h.reader _ c.loop-h.invariant.3 (an-end (goal.at.returns-in-Ends c).In-Ends) c.if-past-s.false))
+    stops (grid c.args.ticks c.args.steps) c.args.s.now _ _ _ _ _ _
+    (walk_open _ _ c.args.s.now c.loop-h.reader _ c.loop-h.invariant.3 (an-end (goal.at.returns-in-Ends c).In-Ends) c.if-past-s.false)
 
-pub returns-in-Refused : goal.returns-in-Refused
-returns-in-Refused c =
-    stops (grid c.args.ticks c.args.steps) ((c.args.s.now)) _ _ _ _ _ _
-    (walk_refused _ _ ((c.args.s.now)) c.loop-h.reader _ c.loop-h.invariant.3
-    (sym c.step.ensures ∙ c.in-Refused.is))
+pub returns-in_err-h : goal.returns-in_err-h
+returns-in_err-h c =
+    let refused : c.from_residual.result ≡ Err c.in_err-h.field-0.0 = grind (arith, common_steps) in
+    rw refused
+    (stops (grid c.args.ticks c.args.steps) c.args.s.now _ _ _ _ _ _
+    (walk_refused _ _ c.args.s.now c.loop-h.reader _ c.loop-h.invariant.3 (sym c.in_err-h.ensures)))

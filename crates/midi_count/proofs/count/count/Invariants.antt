@@ -13,10 +13,10 @@ abbrev pub invariant-loop-h : goal.invariant-loop-h
 invariant-loop-h l =
     let g = grid l.ticks l.steps in
     Within l.s l.reader
-    × Low l.reader.at l.postings
-    × Low l.reader.at l.positions
-    × (walk (tally g) g l.s l.reader (tallies l.bars l.last l.postings l.positions)
-    ≡ walk (tally g) g l.s first_event (tallies 0 l.initial.last l.initial.postings l.initial.positions))
+    × Low l.reader.at l.tables.postings
+    × Low l.reader.at l.tables.positions
+    × (walk (tally g) g l.s l.reader (tallies l.bars l.tables.last l.tables.postings l.tables.positions)
+    ≡ walk (tally g) g l.s first_event (tallies 0 l.initial.tables.last l.initial.tables.postings l.initial.tables.positions))
 
 abbrev pub decreases-loop-h : goal.decreases-loop-h
 decreases-loop-h l = length l.s - l.reader.at

@@ -13,7 +13,7 @@ in_last_bar-count-requires c =
     omega (
       arith,
       c.requires.inside_low.holds c.args.note,
-      fresh_le (get_or c.args.last.now c.args.note 0) c.args.step,
+      fresh_le (get_or c.args.tables.now.last c.args.note 0) c.args.step,
       c.is_fresh-new.ensures,
     )
 
@@ -27,7 +27,7 @@ overflow_cast-counts c =
     omega (
       arith,
       c.requires.inside_low.holds c.args.note,
-      fresh_le (get_or c.args.last.now c.args.note 0) c.args.step,
+      fresh_le (get_or c.args.tables.now.last c.args.note 0) c.args.step,
       c.is_fresh-new.ensures,
       c.in_last_bar-count.ensures,
       in_last_le c.does_open-more.result c.is_fresh-new.result (get_or c.args.inside.now c.args.note 0),
@@ -51,7 +51,7 @@ overflow_cast-places c =
 pub returns : goal.returns
 returns c =
     stored_as c.args.starts.now c.args.marks.now c.args.note c.args.step c.args.steps c.args.velocity
-    (buffers c.args.last.now c.args.postings.now c.args.positions.now c.args.inside.now c.args.loud.now
+    (buffers c.args.tables.now.last c.args.tables.now.postings c.args.tables.now.positions c.args.inside.now c.args.loud.now
     c.args.ids.now c.args.counts.now c.args.places.now c.args.velocities.now)
     c.does_open-more.ensures c.is_fresh-new.ensures c.in_last_bar-count.ensures
     c.loudest_on_step-loudest.ensures

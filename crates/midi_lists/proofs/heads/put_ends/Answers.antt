@@ -10,9 +10,6 @@ pub loop-i-preserved : goal.loop-i-preserved
 loop-i-preserved c =
     filling_next c.loop-i.invariant (fours_step _ c.loop-i.i (omega arith))
 
-pub shape_of-ends : goal.shape_of-ends
-shape_of-ends c = c.loop-i.invariant.long
-
 pub returns : goal.returns
 returns c =
     filling_end c.loop-i.invariant (fours_end _ c.loop-i.i (omega arith)) (fours_length _)

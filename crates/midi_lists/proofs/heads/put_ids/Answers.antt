@@ -12,9 +12,6 @@ pub loop-i-preserved : goal.loop-i-preserved
 loop-i-preserved c =
     filling_next c.loop-i.invariant (rising_step c.loop-i.i (length c.args.ids.now) c.loop-i.i (omega arith))
 
-pub shape_of-ids : goal.shape_of-ids
-shape_of-ids c = c.loop-i.invariant.long
-
 pub returns : goal.returns
 returns c =
     filling_end c.loop-i.invariant (rising_end _ _ c.loop-i.i (omega arith)) (range_length 0 _)

@@ -7,6 +7,3 @@ use Rattle.midi_lists.proofs.heads.put_ids.Given as goal
 
 abbrev pub invariant-loop-i : goal.invariant-loop-i
 invariant-loop-i l = Filling (rising_from 0 (length l.initial.ids)) l.initial.ids (rising_from l.i (length l.initial.ids - l.i)) l.i l.ids
-
-abbrev pub decreases-loop-i : goal.decreases-loop-i
-decreases-loop-i l = length l.initial.ids - l.i

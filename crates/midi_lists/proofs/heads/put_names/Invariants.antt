@@ -1,6 +1,6 @@
 -- The names of the sounds from the note on are left to be stored.
 use mathlib.Core.List.{List, map}
-use Prim.Native.Nat.{ℕ, ◌-◌, ◌≤◌}
+use Prim.Native.Nat.{ℕ}
 use Rattle.common.specs.Lists.{joined}
 use Rattle.midi_bars.specs.Bars.{name_of}
 use Rattle.midi_lists.specs.Heads.{heard}
@@ -13,7 +13,4 @@ names ns = joined (map name_of ns)
 
 abbrev pub invariant-loop-note : goal.invariant-loop-note
 invariant-loop-note l =
-    (l.note ≤ 128) × Filling (names (heard l.postings)) l.initial.text (names (heard_from l.postings l.note)) l.at l.text
-
-abbrev pub decreases-loop-note : goal.decreases-loop-note
-decreases-loop-note l = 128 - l.note
+    Filling (names (heard l.postings)) l.initial.text (names (heard_from l.postings l.note)) l.at l.text

@@ -2,22 +2,20 @@ use Rattle.midi_read.proofs.Chunked.{from_14, heading_short, heading_other, head
 use Rattle.midi_read.proofs.chunks.check_heading.Goals as goal
 
 pub returns-then-s-lt22 : goal.returns-then-s-lt22
-returns-then-s-lt22 c = rw c.midi_file.ensures (heading_short c.args.s.now c.if-s-lt22.true)
+returns-then-s-lt22 c = heading_short c.args.s.now c.if-s-lt22.true
 
 pub returns-then-not-starts_with : goal.returns-then-not-starts_with
 returns-then-not-starts_with c =
     let file = c.args.s.now in
-    rw c.midi_file-then-not-starts_with.ensures
-    (heading_other file c.if-s-lt22.false
-    (from_14 file c.starts_with.ensures c.if-not-starts_with.true))
+    heading_other file c.if-s-lt22.false
+    (from_14 file c.starts_with.ensures c.if-not-starts_with.true)
 
 pub returns-then-read_u32_at-s : goal.returns-then-read_u32_at-s
 returns-then-read_u32_at-s c =
     let file = c.args.s.now in
-    rw c.midi_file-then-read_u32_at-s.ensures
-    (heading_unfit file c.if-s-lt22.false
+    heading_unfit file c.if-s-lt22.false
     (from_14 file c.starts_with.ensures c.if-not-starts_with.false)
-    c.read_u32_at.ensures c.if-read_u32_at-s.true)
+    c.read_u32_at.ensures c.if-read_u32_at-s.true
 
 pub returns : goal.returns
 returns c =

@@ -1,11 +1,7 @@
 -- The bars before i are done.
-use Prim.Native.Nat.{◌-◌}
 use Rattle.pad_lists.proofs.Gathering.{Gathering}
 use Rattle.pad_lists.proofs.sound.gather_sound.Given as goal
 
 abbrev pub invariant-loop-i : goal.invariant-loop-i
 invariant-loop-i l =
     Gathering l.pad l.sound l.at l.i l.postings l.filled l.cursors l.posting_ids l.counts l.positions
-
-abbrev pub decreases-loop-i : goal.decreases-loop-i
-decreases-loop-i l = l.bars - l.i

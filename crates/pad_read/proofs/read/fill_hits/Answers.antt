@@ -1,4 +1,5 @@
 use mathlib.Core.Path.{◌≡◌, refl, sym}
+use Prim.Native.Nat.{◌+◌, ◌*◌}
 use lib.ListN.{length}
 use native.Mathlib.Omega.{arith}
 use Rattle.calls.proofs.Filling.{still_long}
@@ -12,16 +13,14 @@ longs : (l : At-loop-i) → let a = l.args in
     (length l.loop-i.sounds ≡ length a.sounds.now)
     × (length l.loop-i.steps ≡ length a.steps.now)
     × (length l.loop-i.velocities ≡ length a.velocities.now)
-longs l = (still_long l.loop-i.invariant.2, still_long l.loop-i.invariant.3, still_long l.loop-i.invariant.4)
+longs l = (still_long l.loop-i.invariant.0, still_long l.loop-i.invariant.1, still_long l.loop-i.invariant.2)
 
 pub loop-i-init : goal.loop-i-init
 loop-i-init c =
     let a = c.args in (
-      omega arith,
-      omega arith,
-      fill_start sound-of a.pad.now a.from a.count a.sounds.now c.requires.sounds_room,
-      fill_start step_of a.pad.now a.from a.count a.steps.now c.requires.steps_room,
-      fill_start velocity-of a.pad.now a.from a.count a.velocities.now c.requires.velocities_room,
+      fill_start sound-of a.pad.now a.from a.count a.sounds.now c.requires.sounds_room _ (omega arith),
+      fill_start step_of a.pad.now a.from a.count a.steps.now c.requires.steps_room _ (omega arith),
+      fill_start velocity-of a.pad.now a.from a.count a.velocities.now c.requires.velocities_room _ (omega arith),
     )
 
 pub bounds-sounds-i : goal.bounds-sounds-i
@@ -41,13 +40,13 @@ loop-i-preserved c =
     let a = c.args in
     let h = c.loop-i-test.true in
     let pad = a.pad.now in
-    let at = c.loop-i.at in
-    let i = c.loop-i.i in (
-      omega arith,
-      omega arith,
-      fill_next sound-of pad a.from a.count _ at i _ c.loop-i.invariant.2 _ h (sym c.narrow.ensures),
-      fill_next step_of pad a.from a.count _ at i _ c.loop-i.invariant.3 _ h refl,
-      fill_next velocity-of pad a.from a.count _ at i _ c.loop-i.invariant.4 _ h (sym c.narrow-in-loop-i.ensures),
+    let i = c.loop-i.i in
+    let at = a.from + 2 * i in
+    let e : a.from + 2 * (i + 1) ≡ a.from + 2 * i + 2 = omega arith in
+    rw e (
+      fill_next sound-of pad a.from a.count _ at i _ c.loop-i.invariant.0 _ h (sym c.narrow.ensures),
+      fill_next step_of pad a.from a.count _ at i _ c.loop-i.invariant.1 _ h refl,
+      fill_next velocity-of pad a.from a.count _ at i _ c.loop-i.invariant.2 _ h (sym c.narrow-in-loop-i.ensures),
     )
 
 pub shape_of-sounds : goal.shape_of-sounds
@@ -64,10 +63,10 @@ returns c =
     let a = c.args in
     let h = c.loop-i-test.false in
     let pad = a.pad.now in
-    let at = c.loop-i.at in
     let i = c.loop-i.i in
+    let at = a.from + 2 * i in
     record {
-      sounds_left = fill_end sound-of pad a.from a.count _ at i _ c.loop-i.invariant.2 c.requires.sounds_room h;
-      steps_left = fill_end step_of pad a.from a.count _ at i _ c.loop-i.invariant.3 c.requires.steps_room h;
-      velocities_left = fill_end velocity-of pad a.from a.count _ at i _ c.loop-i.invariant.4 c.requires.velocities_room h;
+      sounds_left = fill_end sound-of pad a.from a.count _ at i _ c.loop-i.invariant.0 c.requires.sounds_room h;
+      steps_left = fill_end step_of pad a.from a.count _ at i _ c.loop-i.invariant.1 c.requires.steps_room h;
+      velocities_left = fill_end velocity-of pad a.from a.count _ at i _ c.loop-i.invariant.2 c.requires.velocities_room h;
     }

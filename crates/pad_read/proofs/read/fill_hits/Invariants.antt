@@ -1,6 +1,5 @@
 -- Once the hits that are still to come are stored too, all are.
-use mathlib.Core.Path.{◌≡◌}
-use Prim.Native.Nat.{ℕ, ◌+◌, ◌-◌, ◌*◌, ◌≤◌}
+use Prim.Native.Nat.{ℕ, ◌+◌, ◌*◌}
 use Rattle.pad_map.specs.Bars.{Hit}
 use Rattle.pad_read.specs.Steps.{low_byte}
 use Rattle.pad_read.proofs.Filling.{Filling}
@@ -18,11 +17,6 @@ velocity-of h = low_byte h.velocity
 
 abbrev pub invariant-loop-i : goal.invariant-loop-i
 invariant-loop-i l =
-    (l.i ≤ l.count)
-    × (l.at ≡ l.from + 2 * l.i)
-    × Filling sound-of l.pad l.from l.count l.initial.sounds l.at l.i l.sounds
-    × Filling step_of l.pad l.from l.count l.initial.steps l.at l.i l.steps
-    × Filling velocity-of l.pad l.from l.count l.initial.velocities l.at l.i l.velocities
-
-abbrev pub decreases-loop-i : goal.decreases-loop-i
-decreases-loop-i l = l.count - l.i
+    Filling sound-of l.pad l.from l.count l.initial.sounds (l.from + 2 * l.i) l.i l.sounds
+    × Filling step_of l.pad l.from l.count l.initial.steps (l.from + 2 * l.i) l.i l.steps
+    × Filling velocity-of l.pad l.from l.count l.initial.velocities (l.from + 2 * l.i) l.i l.velocities

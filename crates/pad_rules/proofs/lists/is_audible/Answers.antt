@@ -1,30 +1,14 @@
-use mathlib.Core.Path.{refl}
-use native.Mathlib.Omega.{arith}
-use Rattle.pad_rules.proofs.Listing.{audible_low, audible_high, audible_next, audible_end}
+use Rattle.std.specs.Prelude.{EachIndex, ◌↔◌}
+use mathlib.Core.Path.{◌≡◌}
+use mathlib.Core.Bool.{true}
+use lib.ListN.{get_or}
+use Rattle.std.proofs.Common.{rules}
+use Rattle.pad_map.specs.Rules.{VelocityFits}
+use Rattle.pad_rules.proofs.Listing.{audible_by_each}
 use Rattle.pad_rules.proofs.lists.is_audible.Goals as goal
-
-pub loop-i-init : goal.loop-i-init
-loop-i-init c = (omega arith, refl)
-
-pub returns-then-velocities-i-lt-LOWEST_VELOCITY : goal.returns-then-velocities-i-lt-LOWEST_VELOCITY
-returns-then-velocities-i-lt-LOWEST_VELOCITY c =
-    let a = c.args in
-    audible_low a.velocities.now c.loop-i.i c.loop-i.invariant.1 c.loop-i-test.true c.if-velocities-i-lt-LOWEST_VELOCITY.true
-
-pub returns-then-velocities-i-gt-HIGHEST_VELOCITY : goal.returns-then-velocities-i-gt-HIGHEST_VELOCITY
-returns-then-velocities-i-gt-HIGHEST_VELOCITY c =
-    let a = c.args in
-    audible_high a.velocities.now c.loop-i.i c.loop-i.invariant.1 c.loop-i-test.true c.if-velocities-i-lt-LOWEST_VELOCITY.false c.if-velocities-i-gt-HIGHEST_VELOCITY.true
-
-pub loop-i-preserved : goal.loop-i-preserved
-loop-i-preserved c =
-    let a = c.args in (
-      omega arith,
-      audible_next a.velocities.now c.loop-i.i c.loop-i.invariant.1 c.loop-i-test.true c.if-velocities-i-lt-LOWEST_VELOCITY.false
-          c.if-velocities-i-gt-HIGHEST_VELOCITY.false,
-    )
 
 pub returns : goal.returns
 returns c =
     let a = c.args in
-    audible_end a.velocities.now c.loop-i.i c.loop-i.invariant.1 c.loop-i-test.false
+    let each : (c.all.result ≡ true) ↔ EachIndex a.velocities.now (λ k. VelocityFits (get_or a.velocities.now k 0)) = search rules in
+    audible_by_each _ _ each

@@ -6,11 +6,7 @@ use Rattle.pad_words.specs.Words.{size, bars_of, held}
 use Rattle.pad_words.specs.Steps.{place_from}
 use Rattle.pad_words.proofs.place.place_of.Given as goal
 
-abbrev pub invariant-loop-i : goal.invariant-loop-i
-invariant-loop-i l =
-    (l.i ≤ l.count)
-    × (l.at + size (bars_of (l.count - l.i) (drop l.at l.pad)) ≤ length l.pad)
-    × (place_from l.at (bars_of (l.count - l.i) (drop l.at l.pad)) l.id ≡ place_from 2 (held l.pad) l.id)
-
-abbrev pub decreases-loop-i : goal.decreases-loop-i
-decreases-loop-i l = l.count - l.i
+abbrev pub invariant-loop : goal.invariant-loop
+invariant-loop l =
+    (l.at + size (bars_of (l.end - l.counter) (drop l.at l.pad)) ≤ length l.pad)
+    × (place_from l.at (bars_of (l.end - l.counter) (drop l.at l.pad)) l.id ≡ place_from 2 (held l.pad) l.id)

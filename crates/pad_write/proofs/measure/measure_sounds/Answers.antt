@@ -1,5 +1,4 @@
-use mathlib.Core.Path.{sym, ◌∙◌}
-use Prim.Native.Nat.{◌-◌}
+use Rattle.std.proofs.lemmas.Result.{err_from_is_err_and}
 use native.Mathlib.Numerals.{add-one}
 use native.Mathlib.Omega.{arith}
 use Rattle.pad_lists.proofs.Cursors.{cursors_zeros}
@@ -37,34 +36,31 @@ measure_sound-requires c =
       lists = in_lists e;
       name_order = x.order;
       name_inside = x.inside;
-      last_order = v.last_order;
       last_inside = v.last_inside;
       names_low = v.names_low;
       terms_low = omega (arith, v.terms_low, v.few, c.requires.0.sounds);
       lists_low = omega (arith, v.list_size, v.lists_low);
     }
 
-pub returns-in-Refused : goal.returns-in-Refused
+pub returns-in_err-tally : goal.returns-in_err-tally
 unfolding terms_from
-returns-in-Refused c =
+returns-in_err-tally c =
     let v = c.loop-sound.invariant.0 in
     let e = c.gather_sound-got.ensures in
     let x = next_sound _ _ _ _ _ v.fit c.loop-sound-test.true c.long-end.ensures e.count e.postings in
-    record {
-      answer = tally_stop _ _ _ _ _ _ v x (sym c.in-Refused.is ∙ c.measure_sound.ensures);
+    let p = err_from_is_err_and c.from_residual.result c.from_residual.ensures.1 in
+    rw (p.1, p.2)
+    (record {
+      answer = tally_stop _ _ _ _ _ _ v x c.in_err-tally.ensures;
       long = places_long e.places;
-    }
-
-pub overflow_add-sound : goal.overflow_add-sound
-overflow_add-sound c =
-    omega (arith, c.loop-sound-test.true, c.requires.0.sounds)
+    })
 
 pub loop-sound-preserved : goal.loop-sound-preserved
 loop-sound-preserved c =
     let v = c.loop-sound.invariant.0 in
     let e = c.gather_sound-got.ensures in
     let x = next_sound _ _ _ _ _ v.fit c.loop-sound-test.true c.long-end.ensures e.count e.postings in (
-      tally_next _ _ _ _ _ _ v x (sym c.in-Next.is ∙ c.measure_sound.ensures),
+      tally_next _ _ _ _ _ _ v x c.in_ok-tally.ensures,
       rw (add-one c.loop-sound.sound) e.cursors,
       e.places,
     )

@@ -1,6 +1,4 @@
 -- What is measured and the terms of the sounds still to come make the whole: TallyLeft.
-use Prim.Native.Nat.{◌-◌}
-use lib.ListN.{length}
 use Rattle.common.specs.Lists.{paired}
 use Rattle.segment.specs.Metadata.{document}
 use Rattle.pad_words.specs.Words.{held}
@@ -13,7 +11,3 @@ invariant-loop-sound l =
     TallyLeft (paired document l.ids l.lengths) (held l.pad) l.text l.ends l.sound l.tally
     × Cursors l.sound (held l.pad) l.cursors
     × Places l.cursors l.posting_ids l.counts l.positions
-
-abbrev pub decreases-loop-sound : goal.decreases-loop-sound
-decreases-loop-sound l =
-    length l.ends - l.sound

@@ -36,13 +36,6 @@ put_sound-at-requires c =
       used = term_room _ _ _ _ _ _ c.requires.1 _ _ _ v x;
     }
 
-pub overflow_add-sound : goal.overflow_add-sound
-overflow_add-sound c =
-    omega (arith, c.loop-sound-test.true, c.requires.0.sounds)
-
-pub loop-sound-smaller : goal.loop-sound-smaller
-loop-sound-smaller c = omega (arith, c.loop-sound-test.true)
-
 pub loop-sound-preserved : goal.loop-sound-preserved
 unfolding terms_from
 loop-sound-preserved c =

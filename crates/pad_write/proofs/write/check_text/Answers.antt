@@ -1,24 +1,23 @@
 -- Each test that sends the code on leaves the next one to decide.
+use mathlib.Core.Logic.{⊎_elim}
 use native.Mathlib.Omega.{arith}
 use Rattle.pad_write.proofs.Answered.{text_long, ends_long, ends_other, text_unshaped, text_fine}
 use Rattle.pad_write.proofs.write.check_text.Goals as goal
+use Rattle.pad_write.proofs.write.check_text.Goals.{then-ends-ne-SOUNDS-via-then-ends-ne-SOUNDS, then-ends-ne-SOUNDS-via-else-ends-ne-SOUNDS+then-not-ends_fit}
 
 pub returns-then-text-gt-LIMIT : goal.returns-then-text-gt-LIMIT
-returns-then-text-gt-LIMIT c = rw c.too_large.ensures (text_long _ _ c.if-text-gt-LIMIT.true)
-
-pub returns-then-ends-gt-LIMIT : goal.returns-then-ends-gt-LIMIT
-returns-then-ends-gt-LIMIT c = rw c.too_large-then-ends-gt-LIMIT.ensures (ends_long _ _ c.if-text-gt-LIMIT.false c.if-ends-gt-LIMIT.true)
+returns-then-text-gt-LIMIT c =
+    ⊎_elim (λ h. text_long _ _ h) (λ w. ends_long _ _ w.0 w.1) c.then-text-gt-LIMIT.either
 
 pub returns-then-ends-ne-SOUNDS : goal.returns-then-ends-ne-SOUNDS
 returns-then-ends-ne-SOUNDS c =
-    rw c.list_shape.ensures
-    (ends_other _ _ c.if-text-gt-LIMIT.false c.if-ends-gt-LIMIT.false (λ e. omega (arith, e, c.if-ends-ne-SOUNDS.true)))
-
-pub returns-then-not-ends_fit : goal.returns-then-not-ends_fit
-returns-then-not-ends_fit c =
-    rw c.list_shape-then-not-ends_fit.ensures
-    (text_unshaped _ _ c.if-text-gt-LIMIT.false c.if-ends-gt-LIMIT.false c.if-ends-ne-SOUNDS.false c.ends_fit.ensures
-    c.if-not-ends_fit.true)
+    let t = c.if-text-gt-LIMIT.false in
+    let e = c.if-ends-gt-LIMIT.false in
+    elim c.then-ends-ne-SOUNDS.branch [
+      | then-ends-ne-SOUNDS-via-then-ends-ne-SOUNDS w ↦ ends_other _ _ t e (λ x. omega (arith, x, w.if-ends-ne-SOUNDS.true))
+      | then-ends-ne-SOUNDS-via-else-ends-ne-SOUNDS+then-not-ends_fit w ↦
+          text_unshaped _ _ t e w.if-ends-ne-SOUNDS.false w.ends_fit.ensures w.if-not-ends_fit.true
+    ]
 
 pub returns : goal.returns
 returns c =

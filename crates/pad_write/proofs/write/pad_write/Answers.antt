@@ -1,37 +1,39 @@
 -- 20, 12 and 11 are tested in the definition's order; behind them the writer's answer of the pad's lists is the call's.
+use Rattle.std.specs.Prelude.{Ok}
 use Rattle.pad_write.specs.Steps.{check_text as text-checks}
 use mathlib.Core.Path.{◌≡◌, sym, ◌∙◌}
 use mathlib.Core.Bool.{true}
 use Prim.Native.Nat.{ℕ, ◌≤◌}
+use Rattle.std.proofs.lemmas.Result.{err_from_is_err_and}
 use native.Mathlib.Omega.{arith}
 use lib.ListN.{length-replicate}
 use lib.Seq.{length-take-le}
-use Rattle.segment.specs.Results.{ok}
 use Rattle.segment.proofs.Accepted.{passed_ok, refused_is}
 use Rattle.pad_words.specs.Whole.{whole}
 use Rattle.pad_words.proofs.Wholes.{whole_parts}
 use Rattle.pad_write.proofs.Answered.{documents_front, text_gives, pad_broken, text_refused, pad_answered}
 use Rattle.pad_write.proofs.write.pad_write.Goals as goal
-use Rattle.pad_write.proofs.write.pad_write.Goals.{After-gather_documents, Else-not-is_whole, In_default}
+use Rattle.pad_write.proofs.write.pad_write.Goals.{After-gather_documents, Else-not-is_whole, In_ok-check_text}
 
 is-pad : (c : Else-not-is_whole) → whole c.args.pad.now ≡ true
 is-pad c = sym c.is_whole.ensures ∙ c.if-not-is_whole.false
 
-fine-text : (c : In_default) → text-checks c.args.text.now c.args.ends.now ≡ ok tt
-fine-text c = (passed_ok _ (sym c.in_default.is ∙ c.check_text.ensures)).1
+fine-text : (c : In_ok-check_text) → text-checks c.args.text.now c.args.ends.now ≡ Ok tt
+fine-text c = (passed_ok _ c.in_ok-check_text.ensures).1
 
 bars-there : (c : After-gather_documents) → c.long-bars.result ≤ 256
 bars-there c =
-    omega (arith, c.long-bars.ensures, (whole_parts _ ((let fact5 : whole c.args.pad.now ≡ true = sym c.is_whole.ensures ∙ c.if-not-is_whole.false in fact5))).bars)
+    omega (arith, c.long-bars.ensures, (whole_parts _ (sym c.is_whole.ensures ∙ c.if-not-is_whole.false)).bars)
 
 pub returns-then-not-is_whole : goal.returns-then-not-is_whole
 returns-then-not-is_whole c =
-    rw c.broken_pad.ensures
-    (pad_broken _ _ _ _ (sym c.is_whole.ensures ∙ c.if-not-is_whole.true))
+    pad_broken _ _ _ _ (sym c.is_whole.ensures ∙ c.if-not-is_whole.true)
 
-pub returns-in-Refused : goal.returns-in-Refused
-returns-in-Refused c =
-    text_refused _ _ _ _ (is-pad (goal.at.returns-in-Refused c).Else-not-is_whole) (refused_is _ (sym c.in-Refused.is ∙ c.check_text.ensures))
+pub returns-in_err-check_text : goal.returns-in_err-check_text
+returns-in_err-check_text c =
+    let p = err_from_is_err_and c.from_residual.result c.from_residual.ensures.1 in
+    rw (p.1, p.2)
+    (text_refused _ _ _ _ (is-pad (goal.at.returns-in_err-check_text c).Else-not-is_whole) (refused_is _ c.in_err-check_text.ensures))
 
 pub bounds-pad-0 : goal.bounds-pad-0
 bounds-pad-0 c = omega (arith, (whole_parts _ (is-pad (goal.at.bounds-pad-0 c).Else-not-is_whole)).words)
@@ -56,7 +58,7 @@ slice_bounds-write_sounds-end-2 c =
 
 pub write_sounds-requires : goal.write_sounds-requires
 write_sounds-requires c =
-    let f = text_gives _ _ (fine-text (goal.at.write_sounds-requires c).In_default) in (
+    let f = text_gives _ _ (fine-text (goal.at.write_sounds-requires c).In_ok-check_text) in (
       record {
         whole_pad = is-pad (goal.at.write_sounds-requires c).Else-not-is_whole;
         short = f.short;
@@ -73,4 +75,4 @@ write_sounds-requires c =
 
 pub returns : goal.returns
 returns c =
-    pad_answered _ _ _ _ (is-pad (goal.at.returns c).Else-not-is_whole) (fine-text (goal.at.returns c).In_default) c.write_sounds.ensures
+    pad_answered _ _ _ _ (is-pad (goal.at.returns c).Else-not-is_whole) (fine-text (goal.at.returns c).In_ok-check_text) c.write_sounds.ensures

@@ -1,12 +1,6 @@
 use native.Mathlib.Omega.{arith}
-use Rattle.read_checked.proofs.Counting.{counts_start, counts_next, counts_end}
+use Rattle.read_checked.proofs.Counting.{counts_next, counts_end}
 use Rattle.read_checked.proofs.postings.count_positions.Goals as goal
-
-pub loop-c-init : goal.loop-c-init
-loop-c-init c = (counts_start c.start-c.ensures, omega arith)
-
-pub overflow_add-total : goal.overflow_add-total
-overflow_add-total c = omega (arith, c.long-total.ensures, c.loop-c.invariant.1)
 
 pub loop-c-preserved : goal.loop-c-preserved
 loop-c-preserved c =

@@ -2,6 +2,5 @@
 use Rattle.read_cursors.proofs.QuickSteps.{sure_document}
 use Rattle.read_cursors.proofs.documents.read_document.Goals as goal
 
-pub returns-in-Sure : goal.returns-in-Sure
-returns-in-Sure c =
-    sure_document c.args.meta.now _ c.short_document.ensures c.in-Sure.is
+pub returns-in-Some : goal.returns-in-Some
+returns-in-Some c = sure_document c.args.meta.now _ c.short_document.ensures c.in-Some.is

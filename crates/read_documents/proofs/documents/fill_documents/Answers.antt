@@ -5,7 +5,7 @@ use Rattle.calls.specs.Replies.{ids_of, lengths_of}
 use Rattle.calls.proofs.Filling.{Room, front_start, next_room, next_stored, still_long, all_stored, at_front}
 use Rattle.read_documents.proofs.Turns.{document_turn, no_document}
 use Rattle.read_documents.proofs.documents.fill_documents.Goals as goal
-use Rattle.read_documents.proofs.documents.fill_documents.Goals.{After-id-1}
+use Rattle.read_documents.proofs.documents.fill_documents.Goals.{In-loop-c}
 
 pub loop-c-init : goal.loop-c-init
 loop-c-init c =
@@ -14,7 +14,7 @@ loop-c-init c =
       front_start (ap lengths_of c.start-c.ensures) (rw length-map p.1),
     )
 
-rooms : (c : After-id-1) → let a = c.args in
+rooms : (c : In-loop-c) → let a = c.args in
     Room c.loop-c.i c.loop-c.ids a.ids.now × Room c.loop-c.i c.loop-c.lengths a.lengths.now
 rooms c =
     let e = document_turn _ _ _ _ _ c.loop-c-test.true refl in (
@@ -22,20 +22,14 @@ rooms c =
       next_room c.loop-c.invariant.1 (ap lengths_of e),
     )
 
-pub offset_bounds-ids-i : goal.offset_bounds-ids-i
-offset_bounds-ids-i c = omega (arith, rooms c)
-
 pub bounds-ids-i : goal.bounds-ids-i
 bounds-ids-i c = (rooms c).0.below
 
-pub offset_bounds-lengths-i : goal.offset_bounds-lengths-i
-offset_bounds-lengths-i c = omega (arith, rooms c)
-
 pub bounds-lengths-i : goal.bounds-lengths-i
-bounds-lengths-i c = (rooms c).1.below
+bounds-lengths-i c = (rooms (goal.at.bounds-lengths-i c).In-loop-c).1.below
 
 pub overflow_add-i : goal.overflow_add-i
-overflow_add-i c = omega (arith, rooms (goal.at.overflow_add-i c).After-id-1)
+overflow_add-i c = omega (arith, rooms (goal.at.overflow_add-i c).In-loop-c)
 
 pub loop-c-preserved : goal.loop-c-preserved
 loop-c-preserved c =

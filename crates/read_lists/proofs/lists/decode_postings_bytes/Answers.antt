@@ -1,3 +1,5 @@
+use Rattle.std.proofs.lemmas.Result.{err_from_is_err_and}
+use Rattle.std.specs.Prelude.{Some}
 use Prim.Native.Nat.{◌+◌}
 use mathlib.Core.Path.{refl}
 use native.Mathlib.Omega.{arith}
@@ -5,45 +7,42 @@ use Rattle.segment.specs.Postings.{total_positions}
 use Rattle.read_lists.proofs.Tallies.{all_counted}
 use Rattle.read_lists.proofs.Running.{Running, runs, head_stops, positions_stop, runs_on, ends_short, ends_whole}
 use Rattle.read_lists.proofs.lists.decode_postings_bytes.Goals as goal
-use Rattle.read_lists.proofs.lists.decode_postings_bytes.Goals.{In-Next-read_positions}
+use Rattle.read_lists.proofs.lists.decode_postings_bytes.Goals.{In_ok-reader}
 
 -- after a turn
-again : (n : In-Next-read_positions) →
-    let d = n.in-Next.head in
+again : (n : In_ok-reader) →
+    let d = n.in_ok-head.head in
     let a = n.args in
-    Running total_positions a.list.now a.meta.now a.df a.documents d.documents n.in-Next-read_positions.next.at d.doc.0
+    Running total_positions a.list.now a.meta.now a.df a.documents d.documents n.in_ok-reader.reader.at (Some d.doc.0)
     (n.loop-place.total + d.count) (n.loop-place.place + 1)
 again n =
-    runs_on all_counted n.loop-place.invariant n.loop-place-test.true n.read_head.ensures n.in-Next.is
-    n.read_positions.ensures n.in-Next-read_positions.is refl
+    runs_on all_counted n.loop-place.invariant (omega arith) n.read_head.ensures n.in_ok-head.was n.read_positions.ensures n.in_ok-reader.was
+    refl
 
 pub loop-place-init : goal.loop-place-init
 loop-place-init c = runs total_positions _ _ _ _ _ c.start-known.ensures
 
-pub returns-in-Refused-read_positions : goal.returns-in-Refused-read_positions
-returns-in-Refused-read_positions c =
-    positions_stop all_counted c.loop-place.invariant c.loop-place-test.true c.read_head.ensures c.in-Next.is
-    c.read_positions.ensures c.in-Refused-read_positions.is
+pub returns-in_err-head : goal.returns-in_err-head
+returns-in_err-head c =
+    let p = err_from_is_err_and c.from_residual.result c.from_residual.ensures.1 in
+    rw (p.1, p.2) (head_stops all_counted c.loop-place.invariant (omega arith) c.read_head.ensures c.in_err-head.was)
+
+pub returns-in_err-reader : goal.returns-in_err-reader
+returns-in_err-reader c =
+    let p = err_from_is_err_and c.from_residual-in_err-reader.result c.from_residual-in_err-reader.ensures.1 in
+    rw (p.1, p.2)
+    (positions_stop all_counted c.loop-place.invariant (omega arith) c.read_head.ensures c.in_ok-head.was c.read_positions.ensures
+    c.in_err-reader.was)
 
 pub overflow_add-total : goal.overflow_add-total
 overflow_add-total c =
-    omega (arith, (again (goal.at.overflow_add-total c).In-Next-read_positions).fits, c.in-Next-read_positions.known_told-in-Next-read_positions-1-own.given.0.1)
-
-pub overflow_add-place : goal.overflow_add-place
-overflow_add-place c =
-    omega (arith, c.loop-place-test.true, c.ranges.df)
+    omega (arith, (again (goal.at.overflow_add-total c).In_ok-reader).fits, c.type_inv.list, c.in_ok-reader.ensures.moved)
 
 pub loop-place-preserved : goal.loop-place-preserved
-loop-place-preserved c = again (goal.at.loop-place-preserved c).In-Next-read_positions
-
-pub returns-in-Refused : goal.returns-in-Refused
-returns-in-Refused c =
-    head_stops all_counted c.loop-place.invariant c.loop-place-test.true c.read_head.ensures c.in-Refused.is
+loop-place-preserved c = again (goal.at.loop-place-preserved c).In_ok-reader
 
 pub returns-then-reader-list : goal.returns-then-reader-list
-returns-then-reader-list c =
-    rw c.invalid_layout.ensures (ends_short all_counted c.loop-place.invariant c.loop-place-test.false c.if-reader-list.true)
+returns-then-reader-list c = ends_short all_counted c.loop-place.invariant (omega arith) c.if-reader-list.true
 
 pub returns : goal.returns
-returns c =
-    ends_whole all_counted c.loop-place.invariant c.loop-place-test.false c.if-reader-list.false
+returns c = ends_whole all_counted c.loop-place.invariant (omega arith) c.if-reader-list.false

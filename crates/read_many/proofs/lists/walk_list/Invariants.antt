@@ -1,4 +1,4 @@
--- Each turn takes the list further, or not at all.
+-- Each turn takes the list further.
 use Rattle.read_many.specs.Steps.{Walked}
 use Rattle.read_many.proofs.lists.walk_list.Given as goal
 

@@ -1,15 +1,12 @@
 -- The number of positions, then the positions.
-use Rattle.read_many.proofs.Passing.{posted_of}
+use mathlib.Core.Path.{sym, ◌∙◌}
 use native.Mathlib.Omega.{arith}
+use Rattle.std.proofs.lemmas.Option.{IfSome_then}
+use Rattle.read_many.proofs.Passing.{posted_of}
 use Rattle.read_many.proofs.postings.past_positions.Goals as goal
-
-pub returns-then-first-eq0 : goal.returns-then-first-eq0
-returns-then-first-eq0 c = λ h. absurd (omega arith)
-
-pub returns-then-count-eq0 : goal.returns-then-count-eq0
-returns-then-count-eq0 c = λ h. absurd (omega arith)
 
 pub returns : goal.returns
 returns c =
     let a = c.args in
-    λ h. posted_of a.list.now a.at (c.number-count.ensures (omega arith)) (omega arith) (c.past_gaps.ensures h)
+    IfSome_then c.past_gaps.result c.past_gaps.ensures
+    (λ past p. posted_of a.list.now a.at (sym c.number.ensures ∙ c.in_ok-count.was) (omega (arith, c.if-count-eq0.false)) p)

@@ -6,12 +6,12 @@ use Rattle.read_open.proofs.header.checked_range.Goals as goal
 pub returns-then-at-n : goal.returns-then-at-n
 returns-then-at-n c =
     let a = c.args in
-    rw (c.invalid_layout.ensures, le-ltb (a.at + a.n) (2 ^ 64) (omega arith))
+    rw (le-ltb (a.at + a.n) (2 ^ 64) (omega arith))
 
 pub returns-then-whole-at : goal.returns-then-whole-at
 returns-then-whole-at c =
     let a = c.args in
-    rw (c.truncated.ensures, lt-ltb (a.at + a.n) (2 ^ 64) (omega arith), lt-leb (a.at + a.n) a.whole (omega arith))
+    rw (lt-ltb (a.at + a.n) (2 ^ 64) (omega arith), lt-leb (a.at + a.n) a.whole (omega arith))
 
 pub returns : goal.returns
 returns c =

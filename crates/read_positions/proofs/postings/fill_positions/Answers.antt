@@ -3,12 +3,12 @@ use native.Mathlib.Omega.{arith}
 use Rattle.calls.proofs.Filling.{Room, to_start, next_room, next_stored, still_long, all_stored}
 use Rattle.read_positions.proofs.Turns.{position_turn, no_position}
 use Rattle.read_positions.proofs.postings.fill_positions.Goals as goal
-use Rattle.read_positions.proofs.postings.fill_positions.Goals.{After-pos-1}
+use Rattle.read_positions.proofs.postings.fill_positions.Goals.{In-loop-c}
 
 pub loop-c-init : goal.loop-c-init
 loop-c-init c = to_start refl c.requires
 
-room : (c : After-pos-1) → Room c.loop-c.i c.loop-c.out c.args.out.now
+room : (c : In-loop-c) → Room c.loop-c.i c.loop-c.out c.args.out.now
 room c = next_room c.loop-c.invariant (position_turn _ _ _ _ c.loop-c-test.true refl)
 
 pub offset_bounds-out-i : goal.offset_bounds-out-i
@@ -18,7 +18,7 @@ pub bounds-out-i : goal.bounds-out-i
 bounds-out-i c = (room c).below
 
 pub overflow_add-i : goal.overflow_add-i
-overflow_add-i c = omega (arith, room (goal.at.overflow_add-i c).After-pos-1)
+overflow_add-i c = omega (arith, room (goal.at.overflow_add-i c).In-loop-c)
 
 pub loop-c-preserved : goal.loop-c-preserved
 loop-c-preserved c =

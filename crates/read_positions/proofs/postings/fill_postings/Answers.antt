@@ -6,7 +6,7 @@ use Rattle.calls.proofs.Filling.{Room, front_start, next_room, next_stored, stil
 use Rattle.read_terms.proofs.Turns.{spot_docs, posting_turn, no_posting}
 use Rattle.read_positions.proofs.Turns.{spot_counts, positions_room, positions_next}
 use Rattle.read_positions.proofs.postings.fill_postings.Goals as goal
-use Rattle.read_positions.proofs.postings.fill_postings.Goals.{After-doc-1}
+use Rattle.read_positions.proofs.postings.fill_postings.Goals.{In-loop-c}
 
 pub loop-c-init : goal.loop-c-init
 loop-c-init c =
@@ -17,7 +17,7 @@ loop-c-init c =
       front_start (ap all_positions e) p.2,
     )
 
-rooms : (c : After-doc-1)
+rooms : (c : In-loop-c)
     → let a = c.args in
     Room c.loop-c.i c.loop-c.ids a.ids.now × Room c.loop-c.i c.loop-c.counts a.counts.now
 rooms c =
@@ -42,7 +42,7 @@ fill_positions-next-requires c =
     positions_room _ _ _ _ _ c.loop-c.invariant.2 c.loop-c-test.true c.start.ensures
 
 pub overflow_add-i : goal.overflow_add-i
-overflow_add-i c = omega (arith, (offset_bounds-ids-i (goal.at.overflow_add-i c).After-doc-1).fits)
+overflow_add-i c = omega (arith, (offset_bounds-ids-i (goal.at.overflow_add-i c).In-loop-c).fits)
 
 pub loop-c-preserved : goal.loop-c-preserved
 loop-c-preserved c =

@@ -1,4 +1,4 @@
-use mathlib.Core.Option.{none}
+use Rattle.std.specs.Prelude.{None}
 use lib.ListN.{drop}
 use Rattle.read_cursors.specs.Held.{held_postings}
 use Rattle.read_cursors.specs.Steps.{postings_from}
@@ -10,7 +10,7 @@ use Rattle.read_positions.proofs.postings.fill_postings.Given as goal
 
 abbrev pub invariant-loop-c : goal.invariant-loop-c
 invariant-loop-c l =
-    let all = held_postings l.df none (drop l.at l.bytes) in
+    let all = held_postings l.df None (drop l.at l.bytes) in
     let left = postings_from l.bytes l.c in
     ToStore (spot_docs all) 0 l.initial.ids (spot_docs left) l.i l.ids
     × ToStore (spot_counts all) 0 l.initial.counts (spot_counts left) l.i l.counts

@@ -4,7 +4,7 @@ use Rattle.read_terms.proofs.find.decode_postings_for.Goals as goal
 
 pub returns-then-crc32-list : goal.returns-then-crc32-list
 returns-then-crc32-list c =
-    rw c.checksum_mismatch.ensures (sum_differs (positions_in _) _ _ c.crc32.ensures c.if-crc32-list.true)
+    sum_differs (positions_in _) _ _ c.crc32.ensures c.if-crc32-list.true
 
 pub returns : goal.returns
 returns c =

@@ -4,12 +4,11 @@ use Rattle.read_terms.proofs.terms.check_name.Goals as goal
 
 pub returns-then-name-gt-LIMIT : goal.returns-then-name-gt-LIMIT
 returns-then-name-gt-LIMIT c =
-    rw c.too_large.ensures (name_large _ c.if-name-gt-LIMIT.true)
+    name_large _ c.if-name-gt-LIMIT.true
 
 pub returns-then-not-is_utf8 : goal.returns-then-not-is_utf8
 returns-then-not-is_utf8 c =
-    rw c.invalid_utf8.ensures
-    (name_not_text _ c.if-name-gt-LIMIT.false (sym c.is_utf8.ensures ∙ c.if-not-is_utf8.true))
+    name_not_text _ c.if-name-gt-LIMIT.false (sym c.is_utf8.ensures ∙ c.if-not-is_utf8.true)
 
 pub returns : goal.returns
 returns c = name_fine _ c.if-name-gt-LIMIT.false (sym c.is_utf8.ensures ∙ c.if-not-is_utf8.false)

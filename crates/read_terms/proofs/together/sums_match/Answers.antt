@@ -1,25 +1,20 @@
-use mathlib.Core.Path.{sym}
+use mathlib.Core.Path.{sym, ◌∙◌}
 use Rattle.common.proofs.Loops.{true_false}
-use Rattle.read_terms.proofs.SideBySide.{sums_none, sums_more, sums_all}
+use Rattle.std.proofs.Common.{below_more}
 use native.Mathlib.Omega.{arith}
 use Rattle.read_terms.proofs.together.sums_match.Goals as goal
 
-pub loop-k-init : goal.loop-k-init
-loop-k-init c = (omega arith, sums_none _ _ _ _)
+pub returns-then-list : goal.returns-then-list
+returns-then-list c = λ e. true_false (sym e)
 
-pub returns-then-to-from : goal.returns-then-to-from
-returns-then-to-from c = λ e. true_false (sym e)
+pub returns-then-bytes-list : goal.returns-then-bytes-list
+returns-then-bytes-list c = λ e. true_false (sym e)
 
-pub returns-then-bytes-to : goal.returns-then-bytes-to
-returns-then-bytes-to c = λ e. true_false (sym e)
+pub returns-then-crc32-list : goal.returns-then-crc32-list
+returns-then-crc32-list c = λ e. true_false (sym e)
 
-pub returns-then-crc32-checksum : goal.returns-then-crc32-checksum
-returns-then-crc32-checksum c = λ e. true_false (sym e)
-
-pub loop-k-preserved : goal.loop-k-preserved
-loop-k-preserved c =
-    (omega arith, sums_more _ _ _ _ c.loop-k.k c.loop-k.invariant.1 c.crc32.ensures c.if-crc32-checksum.false)
+pub loop-list-preserved : goal.loop-list-preserved
+loop-list-preserved c = below_more _ _ c.loop-list.invariant (sym c.crc32.ensures ∙ c.if-crc32-list.false)
 
 pub returns : goal.returns
-returns c =
-    λ e. sums_all _ _ _ _ c.loop-k.invariant.1 (omega arith)
+returns c = λ e. record { each = λ k h. c.loop-list.invariant k (omega arith) }

@@ -1,10 +1,8 @@
 -- The checksums of the lists so far match.
-use Prim.Native.Nat.{◌-◌, ◌≤◌}
-use Rattle.read_terms.specs.Together.{SumsMatch}
+use Prim.Native.Nat.{ℕ, ◌<◌}
+use lib.ListN.{get_or}
+use Rattle.read_terms.specs.Together.{no_list, SumMatches}
 use Rattle.read_terms.proofs.together.sums_match.Given as goal
 
-abbrev pub invariant-loop-k : goal.invariant-loop-k
-invariant-loop-k l = (l.k ≤ l.m) × SumsMatch l.bytes l.k l.start l.end l.checksum
-
-abbrev pub decreases-loop-k : goal.decreases-loop-k
-decreases-loop-k l = l.m - l.k
+abbrev pub invariant-loop-list : goal.invariant-loop-list
+invariant-loop-list l = (k : ℕ) → k < l.list-index → SumMatches l.bytes (get_or l.lists k no_list)

@@ -1,5 +1,4 @@
 use mathlib.Core.List.{map}
-use Prim.Native.Nat.{◌-◌}
 use lib.ListN.{take}
 use Rattle.common.proofs.Stores.{Storing}
 use Rattle.calls.specs.Listing.{shown}
@@ -7,6 +6,3 @@ use Rattle.show_columns.proofs.put.put_shown.Given as goal
 
 abbrev pub invariant-loop-i : goal.invariant-loop-i
 invariant-loop-i l = Storing (map shown (take l.count l.s)) l.at l.initial.out l.i l.out
-
-abbrev pub decreases-loop-i : goal.decreases-loop-i
-decreases-loop-i l = l.count - l.i

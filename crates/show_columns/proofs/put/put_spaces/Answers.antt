@@ -1,23 +1,17 @@
-use mathlib.Core.Path.{refl}
-use Prim.Native.Nat.{ℕ}
+use mathlib.Core.Path.{◌≡◌}
+use Prim.Native.Nat.{ℕ, ◌+◌, ◌-◌}
 use native.Mathlib.Omega.{arith}
-use lib.ListN.{length-replicate}
-use Rattle.common.proofs.Stores.{storing_start, storing_next, storing_end}
-use Rattle.show_columns.proofs.Names.{spaces_step}
+use lib.ListN.{length, drop, take, length-drop, length-replicate}
+use lib.Seq.{length-take-le}
+use Rattle.show_columns.proofs.Names.{part_stored}
 use Rattle.show_columns.proofs.put.put_spaces.Goals as goal
-
-pub loop-i-init : goal.loop-i-init
-loop-i-init c = storing_start _ _ _
-
-pub loop-i-preserved : goal.loop-i-preserved
-loop-i-preserved c =
-    let l = c.loop-i in
-    storing_next l.invariant refl (spaces_step c.args.count l.i (omega arith))
-
-pub shape_of-out : goal.shape_of-out
-shape_of-out c = c.loop-i.invariant.long
 
 pub returns : goal.returns
 returns c =
-    let size = length-replicate {0} {A = ℕ} c.args.count 32 in
-    storing_end c.loop-i.invariant (omega (arith, size)) (omega (arith, size))
+    let a = c.args in
+    let size : a.at + a.count - a.at ≡ a.count = omega arith in
+    let part = drop a.at a.out.now in
+    let long : length (take (a.at + a.count - a.at) part) ≡ a.count =
+    rw size (length-take-le a.count part (omega (arith, length-drop a.at a.out.now))) in
+    rw (c.fill.ensures.after (λ y e. e), long, size)
+    (part_stored (length-replicate {0} {A = ℕ} a.count 32) c.requires)

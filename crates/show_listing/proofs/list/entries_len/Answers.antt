@@ -19,7 +19,7 @@ pub loop-i-init : goal.loop-i-init
 loop-i-init c =
     let terms = c.args.terms in
     let all : terms - 0 ≡ terms = omega arith in
-    (omega arith, omega arith, rw all (omega arith))
+    (omega arith, rw all (omega arith))
 
 pub entry_len-size-requires : goal.entry_len-size-requires
 entry_len-size-requires c = c.requires.0 c.loop-i.i (omega arith)
@@ -32,10 +32,10 @@ loop-i-preserved c =
     let l = c.loop-i in
     let a = c.args in
     let next = entry_lines_less a.dir.now a.names.now a.terms l.i (omega arith) in
-    (omega arith, omega (arith, line_most c), omega (arith, l.invariant.2, c.entry_len-size.ensures, next))
+    (omega (arith, line_most c), omega (arith, l.invariant.1, c.entry_len-size.ensures, next))
 
 pub returns : goal.returns
 returns c =
     let l = c.loop-i in
     let a = c.args in
-    omega (arith, l.invariant.2, ap length (entry_lines_end a.dir.now a.names.now a.terms l.i (omega arith)))
+    omega (arith, l.invariant.1, ap length (entry_lines_end a.dir.now a.names.now a.terms l.i (omega arith)))

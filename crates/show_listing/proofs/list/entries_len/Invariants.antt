@@ -7,9 +7,5 @@ use Rattle.show_listing.proofs.list.entries_len.Given as goal
 
 abbrev pub invariant-loop-i : goal.invariant-loop-i
 invariant-loop-i l =
-    (l.i ≤ l.terms)
-    × (l.size ≤ 75 * l.i)
+    (l.size ≤ 75 * l.i)
     × (l.size + length (entry_lines_at l.dir l.names (l.terms - l.i) l.i) ≡ length (entry_lines_at l.dir l.names l.terms 0))
-
-abbrev pub decreases-loop-i : goal.decreases-loop-i
-decreases-loop-i l = l.terms - l.i

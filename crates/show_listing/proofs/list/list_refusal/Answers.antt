@@ -1,11 +1,21 @@
+use Prim.Native.Nat.{◌<◌}
+use mathlib.Core.Path.{◌≡◌}
+use lib.ListN.{length}
+use Rattle.calls.specs.Listing.{refusal_line}
 use native.Mathlib.Omega.{arith}
 use Rattle.show_columns.proofs.Columns.{past_number}
 use Rattle.show_listing.proofs.Listed.{listed, no_place, refusal_length, refusal_stored}
 use Rattle.show_listing.proofs.list.list_refusal.Goals as goal
+use Rattle.show_listing.proofs.list.list_refusal.Goals.{After-numbers-n}
+
+small : (c : After-numbers-n) → c.numbers-n.result.index < 10000000000
+small c = rw c.numbers-n.ensures c.requires
+
+sized : (c : After-numbers-n) → length (refusal_line c.args.x) ≡ 31
+sized c = refusal_length c.args.x c.numbers-n.ensures (omega arith) (omega arith) (small c)
 
 pub returns-then-out-lt31 : goal.returns-then-out-lt31
-returns-then-out-lt31 c =
-    rw c.no_room.ensures (no_place (refusal_length c.args.x (omega arith) (omega arith) c.requires) c.if-out-lt31.true)
+returns-then-out-lt31 c = no_place (sized (goal.at.returns-then-out-lt31 c).After-numbers-n) c.if-out-lt31.true
 
 pub put_number-next-requires-2 : goal.put_number-next-requires-2
 put_number-next-requires-2 c =
@@ -13,7 +23,7 @@ put_number-next-requires-2 c =
 
 pub put_number-end-requires : goal.put_number-end-requires
 put_number-end-requires c = (
-  omega arith,
+  small (goal.at.put_number-end-requires c).After-numbers-n,
   omega (arith, past_number _ c.put_number-next.ensures (omega arith), past_number _ c.put_number-next-2.ensures (omega arith)),
 )
 
@@ -23,11 +33,11 @@ put_end-requires c =
       arith,
       past_number _ c.put_number-next.ensures (omega arith),
       past_number _ c.put_number-next-2.ensures (omega arith),
-      past_number _ c.put_number-end.ensures (omega arith),
+      past_number _ c.put_number-end.ensures (small (goal.at.put_end-requires c).After-numbers-n),
     )
 
 pub returns : goal.returns
 returns c =
-    listed (refusal_length c.args.x (omega arith) (omega arith) c.requires)
-    (refusal_stored c.args.x c.put_number-next.ensures c.put_number-next-2.ensures c.put_number-end.ensures
+    listed (sized (goal.at.returns c).After-numbers-n)
+    (refusal_stored c.args.x c.numbers-n.ensures c.put_number-next.ensures c.put_number-next-2.ensures c.put_number-end.ensures
     c.put_end.ensures) (omega arith)

@@ -1,10 +1,9 @@
+use Rattle.std.specs.Prelude.{None, Ok}
 use Prim.Native.Nat.{◌+◌, ◌*◌, ◌≤◌, ◌<◌}
 use mathlib.Core.Path.{◌≡◌, ◌∙◌}
-use mathlib.Core.Option.{none}
 use native.Mathlib.Omega.{arith}
 use lib.ListN.{length}
 use Rattle.common.proofs.Bytes.{each_below}
-use Rattle.segment.specs.Results.{ok}
 use Rattle.segment.specs.Records.{Segment}
 use Rattle.read_open.specs.Opened.{IsOpen}
 use Rattle.calls.specs.Listing.{text_of}
@@ -24,7 +23,7 @@ small c = (omega arith, omega arith)
 
 -- the text's length, from the counts and the terms' lines
 size : (c : After-entries_len-lines) {s : Segment} → let a = c.args in
-    IsOpen a.bytes.now a.at s → length (text_of (ok s)) ≡ 21 + a.at.documents * 21 + c.entries_len-lines.result
+    IsOpen a.bytes.now a.at s → length (text_of (Ok s)) ≡ 21 + a.at.documents * 21 + c.entries_len-lines.result
 size c o =
     let lines = rw c.long-terms.ensures at c.entries_len-lines.ensures in
     omega (arith, text_length o (small c).0 (small c).1, lines)
@@ -49,7 +48,7 @@ overflow_add-needed-2 c = omega (arith, few c)
 
 pub returns-then-out-needed : goal.returns-then-out-needed
 returns-then-out-needed c s o =
-    rw c.no_room.ensures (no_place (size (goal.at.returns-then-out-needed c).After-entries_len-lines o ∙ omega arith) (omega arith))
+    no_place (size (goal.at.returns-then-out-needed c).After-entries_len-lines o ∙ omega arith) (omega arith)
 
 pub put_documents-next-requires : goal.put_documents-next-requires
 put_documents-next-requires c =
@@ -59,15 +58,16 @@ put_documents-next-requires c =
 pub put_entries-requires : goal.put_entries-requires
 put_entries-requires c =
     let terms = c.long-terms.ensures in
-    let held = held_documents c.args.at.documents none (cut c.args.bytes.now c.args.at).metadata in
+    let counts = small (goal.at.put_entries-requires c).After-entries_len-lines in
+    let held = held_documents c.args.at.documents None (cut c.args.bytes.now c.args.at).metadata in
     record {
       inside = λ i h. c.requires.1.sorted.inside i (omega arith);
       room = omega (
         arith,
         held_length c.requires.1,
-        past_pair _ _ c.put_pair-next.ensures (small (goal.at.put_entries-requires c).After-entries_len-lines).0 (small (goal.at.put_entries-requires c).After-entries_len-lines).1,
+        past_pair _ _ c.put_pair-next.ensures counts.0 counts.1,
         c.put_documents-next.ensures.past,
-        document_lines_length 0 held (held_rise _ none _),
+        document_lines_length 0 held (held_rise _ None _),
         c.entries_len-lines.ensures,
       );
     }

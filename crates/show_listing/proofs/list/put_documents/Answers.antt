@@ -1,5 +1,5 @@
+use Rattle.std.specs.Prelude.{None}
 use mathlib.Core.Path.{refl, sym, ap, ◌∙◌}
-use mathlib.Core.Option.{none}
 use native.Mathlib.Omega.{arith}
 use lib.ListN.{length}
 use lib.Seq.{sets}
@@ -42,7 +42,7 @@ returns c =
     let l = c.loop-c in
     let a = c.args in
     let meta = a.meta.now in
-    let all = document_lines_length 0 (held_documents a.count none meta) (held_rise a.count none meta) in
+    let all = document_lines_length 0 (held_documents a.count None meta) (held_rise a.count None meta) in
     record {
       past = omega (arith, no_more meta l.c (omega arith), all);
       left = rw (document_lines_end meta l.c (omega arith)) at l.invariant.2;

@@ -1,5 +1,5 @@
 use mathlib.Core.Path.{◌≡◌}
-use Prim.Native.Nat.{◌+◌, ◌-◌, ◌≤◌}
+use Prim.Native.Nat.{◌+◌, ◌-◌}
 use lib.ListN.{length}
 use lib.Seq.{sets}
 use Rattle.show_listing.specs.Steps.{entry_lines_at}
@@ -7,10 +7,7 @@ use Rattle.show_listing.proofs.list.put_entries.Given as goal
 
 abbrev pub invariant-loop-i : goal.invariant-loop-i
 invariant-loop-i l =
-    (l.i ≤ l.terms)
-    × (l.next + length (entry_lines_at l.dir l.names (l.terms - l.i) l.i) ≡ l.at + length (entry_lines_at l.dir l.names l.terms 0))
+    (l.next + length (entry_lines_at l.dir l.names (l.terms - l.i) l.i) ≡ l.at + length (entry_lines_at l.dir l.names l.terms 0))
     × (length l.out ≡ length l.initial.out)
-    × (sets l.out l.next (entry_lines_at l.dir l.names (l.terms - l.i) l.i) ≡ sets l.initial.out l.at (entry_lines_at l.dir l.names l.terms 0))
-
-abbrev pub decreases-loop-i : goal.decreases-loop-i
-decreases-loop-i l = l.terms - l.i
+    × (sets l.out l.next (entry_lines_at l.dir l.names (l.terms - l.i) l.i)
+    ≡ sets l.initial.out l.at (entry_lines_at l.dir l.names l.terms 0))

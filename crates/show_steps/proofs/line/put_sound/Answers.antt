@@ -1,4 +1,4 @@
-use mathlib.Core.Option.{none}
+use Rattle.std.specs.Prelude.{None}
 use native.Mathlib.Omega.{arith}
 use lib.ListN.{drop}
 use Rattle.read_cursors.specs.Held.{held_positions}
@@ -23,6 +23,6 @@ put_end-requires c =
 pub returns : goal.returns
 returns c =
     let a = c.args in
-    sound_stored a.len a.name.now (held_positions a.here.count none (drop a.here.at a.bytes.now))
+    sound_stored a.len a.name.now (held_positions a.here.count None (drop a.here.at a.bytes.now))
     c.start.ensures c.requires.1
     c.put_name-steps.ensures c.put_steps-hits.ensures c.put_hits-end.ensures c.put_end.ensures

@@ -19,9 +19,6 @@ loop-step-preserved c =
       onward_next l.step hits l.invariant.1 c.seek-c.ensures,
     )
 
-pub shape_of-out : goal.shape_of-out
-shape_of-out c = c.loop-step.invariant.0.long
-
 pub returns : goal.returns
 returns c =
     let a = c.args in

@@ -1,5 +1,4 @@
 use mathlib.Core.Path.{◌≡◌}
-use Prim.Native.Nat.{◌-◌}
 use Rattle.common.proofs.Stores.{Storing}
 use Rattle.read_cursors.specs.Steps.{positions_from}
 use Rattle.calls.specs.Sheet.{marks}
@@ -10,6 +9,3 @@ abbrev pub invariant-loop-step : goal.invariant-loop-step
 invariant-loop-step l =
     Storing (marks l.len (positions_from l.bytes l.initial.c) 64 0) l.at l.initial.out l.step l.out
     × (positions_from l.bytes l.c ≡ onward l.step (positions_from l.bytes l.initial.c))
-
-abbrev pub decreases-loop-step : goal.decreases-loop-step
-decreases-loop-step l = 64 - l.step

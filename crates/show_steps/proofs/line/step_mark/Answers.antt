@@ -6,10 +6,10 @@ use Rattle.show_steps.proofs.Marks.{Here, elsewhere, none_remains, mark_hit, mar
 use Rattle.show_steps.proofs.line.step_mark.Goals as goal
 use Rattle.show_steps.proofs.line.step_mark.Goals.{Joined-else-c-gt0}
 
-pub returns-then-here-step : goal.returns-then-here-step
-returns-then-here-step c =
+pub returns-then-c-step : goal.returns-then-c-step
+returns-then-c-step c =
     let a = c.args in
-    mark_hit a.c a.step a.len (omega arith) (eq-eqb _ _ c.if-here-step.true)
+    mark_hit a.c a.step a.len (omega arith) (eq-eqb _ _ c.if-c-step.true)
 
 -- No hit on this step: the next one is elsewhere, or none remains
 free : (c : Joined-else-c-gt0) → let a = c.args in Here a.c a.step false

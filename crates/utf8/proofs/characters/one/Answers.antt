@@ -1,24 +1,24 @@
 -- An octet past the end is in no range, and one before it is compared with both ends.
 use mathlib.Core.Path.{sym}
 use mathlib.Core.List.{[]}
-use native.Mathlib.Omega.{arith}
-use lib.ListN.{get_or}
 use borrow.Author.Tests.{le-leb, lt-leb}
 use Rattle.utf8.specs.Utf8.{range}
 use Rattle.utf8.proofs.Ranges.{out, here}
 use Rattle.utf8.proofs.characters.one.Goals as goal
 
-pub returns-then-s-at : goal.returns-then-s-at
-returns-then-s-at c =
+pub returns-in_default : goal.returns-in_default
+returns-in_default c =
     let a = c.args in
-    sym (out (range a.low a.high) [] a.s.now a.at (omega arith))
+    sym (out (range a.low a.high) [] a.s.now a.at c.in_default.ensures.lookup.3)
 
-pub returns-then-b-low : goal.returns-then-b-low
-returns-then-b-low c =
+pub returns-then-low-b : goal.returns-then-low-b
+returns-then-low-b c =
     let a = c.args in
-    rw (here (range a.low a.high) a.s.now a.at (omega arith), lt-leb a.low (get_or a.s.now a.at 0) (omega arith))
+    let read = c.in-Some.ensures.lookup.3 in
+    rw (here (range a.low a.high) a.s.now a.at read.0, ← read.1 0, le-leb a.low c.in-Some.field-0.now c.if-low-b.true)
 
-pub returns : goal.returns
-returns c =
+pub returns-else-low-b : goal.returns-else-low-b
+returns-else-low-b c =
     let a = c.args in
-    rw (here (range a.low a.high) a.s.now a.at (omega arith), le-leb a.low (get_or a.s.now a.at 0) (omega arith))
+    let read = c.in-Some.ensures.lookup.3 in
+    rw (here (range a.low a.high) a.s.now a.at read.0, ← read.1 0, lt-leb a.low c.in-Some.field-0.now c.if-low-b.false)

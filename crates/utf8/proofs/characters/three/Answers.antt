@@ -1,6 +1,7 @@
 -- The first range by one octet, and the others from the next place on.
-use mathlib.Core.List.{[], ◌∷◌}
+use mathlib.Core.Path.{◌∙◌}
 use native.Mathlib.Omega.{arith}
+use mathlib.Core.List.{[], ◌∷◌}
 use Rattle.utf8.specs.Utf8.{range, utf8_tail}
 use Rattle.utf8.proofs.Ranges.{within, joined, apart}
 use Rattle.utf8.proofs.characters.three.Goals as goal
@@ -13,10 +14,9 @@ overflow_add-at c =
 pub returns-then-one : goal.returns-then-one
 returns-then-one c =
     let a = c.args in
-    joined _ a.s.now a.at c.one.ensures (range a.low1 a.high1 ∷ utf8_tail ∷ []) c.if-one.true
-    c.two.ensures
+    joined _ a.s.now a.at c.one.ensures (range a.low1 a.high1 ∷ utf8_tail ∷ []) c.if-one.true c.two.ensures
 
-pub returns : goal.returns
-returns c =
+pub returns-else-one : goal.returns-else-one
+returns-else-one c =
     let a = c.args in
-    apart _ a.s.now a.at c.one.ensures _ c.if-one.false
+    c.if-one.false ∙ apart _ a.s.now a.at c.one.ensures _ c.if-one.false

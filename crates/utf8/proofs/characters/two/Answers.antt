@@ -1,4 +1,5 @@
 -- The first range by one octet, and the others from the next place on.
+use mathlib.Core.Path.{◌∙◌}
 use native.Mathlib.Omega.{arith}
 use Rattle.utf8.proofs.Ranges.{within, joined, apart}
 use Rattle.utf8.proofs.characters.two.Goals as goal
@@ -13,7 +14,7 @@ returns-then-one c =
     let a = c.args in
     joined _ a.s.now a.at c.one.ensures _ c.if-one.true c.one-then-one.ensures
 
-pub returns : goal.returns
-returns c =
+pub returns-else-one : goal.returns-else-one
+returns-else-one c =
     let a = c.args in
-    apart _ a.s.now a.at c.one.ensures _ c.if-one.false
+    c.if-one.false ∙ apart _ a.s.now a.at c.one.ensures _ c.if-one.false

@@ -7,9 +7,6 @@ use Rattle.utf8.proofs.prefix.first_characters.Given as goal
 
 abbrev pub invariant-loop-characters : goal.invariant-loop-characters
 invariant-loop-characters l =
-    (l.octets ≤ length l.s) × (l.characters ≤ l.octets) × (l.characters ≤ l.most)
+    (l.octets ≤ length l.s) × (l.characters ≤ l.octets)
     × (l.characters + length (take (l.most - l.characters) (decoded (drop l.octets l.s))) ≡ length (take l.most (decoded l.s)))
     × (l.octets + length (text (take (l.most - l.characters) (decoded (drop l.octets l.s)))) ≡ length (text (take l.most (decoded l.s))))
-
-abbrev pub decreases-loop-characters : goal.decreases-loop-characters
-decreases-loop-characters l = l.most - l.characters

@@ -1,12 +1,11 @@
 -- What is left to check, behind the posting before, answers as the whole does; what was counted and the length of the bytes still to come
 -- are the length of all.
+use Rattle.std.specs.Prelude.{None, option_map}
 use mathlib.Core.Path.{◌≡◌}
-use mathlib.Core.Option.{none}
-use Prim.Native.Nat.{◌+◌, ◌-◌, ◌*◌, ◌≤◌}
-use lib.Dec.{eqb}
+use Prim.Native.Nat.{◌+◌, ◌*◌, ◌≤◌}
 use lib.ListN.{length, drop}
 use Rattle.segment.specs.Metadata.{document}
-use Rattle.segment.specs.Steps.{checked, earlier}
+use Rattle.segment.specs.Steps.{checked}
 use Rattle.segment.specs.Written.{postings_bytes}
 use Rattle.common.specs.Lists.{paired, total}
 use Rattle.calls.specs.Checks.{check_postings}
@@ -16,14 +15,11 @@ use Rattle.write_check_all.proofs.lists.measure_postings.Given as goal
 
 abbrev pub invariant-loop-i : goal.invariant-loop-i
 invariant-loop-i l =
-    (l.i ≤ length l.posting_ids)
-    × (l.at + total (drop l.i l.counts) ≤ length l.positions)
-    × (checked (check_postings (paired document l.ids l.lengths) (earlier (eqb l.i 0) l.previous.0)
+    let previous = option_map (λ d. d.0) l.previous in
+    (l.at + total (drop l.i l.counts) ≤ length l.positions)
+    × (checked (check_postings (paired document l.ids l.lengths) previous
     (postings_in (drop l.i l.posting_ids) (drop l.i l.counts) (drop l.at l.positions)))
-    ≡ checked (check_postings (paired document l.ids l.lengths) none (postings_in l.posting_ids l.counts l.positions)))
-    × (l.size + length (postings_left l.posting_ids l.counts l.positions l.previous.0 l.at l.i)
-    ≡ length (postings_bytes none (postings_in l.posting_ids l.counts l.positions)))
-    × (length (postings_bytes none (postings_in l.posting_ids l.counts l.positions)) ≤ 10 * length l.counts + 5 * length l.positions)
-
-abbrev pub decreases-loop-i : goal.decreases-loop-i
-decreases-loop-i l = length l.posting_ids - l.i
+    ≡ checked (check_postings (paired document l.ids l.lengths) None (postings_in l.posting_ids l.counts l.positions)))
+    × (l.size + length (postings_left l.posting_ids l.counts l.positions previous l.at l.i)
+    ≡ length (postings_bytes None (postings_in l.posting_ids l.counts l.positions)))
+    × (length (postings_bytes None (postings_in l.posting_ids l.counts l.positions)) ≤ 10 * length l.counts + 5 * length l.positions)

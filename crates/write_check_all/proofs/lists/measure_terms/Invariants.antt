@@ -1,13 +1,11 @@
 -- What is left to check, behind the name before, answers as the whole does; what was counted and the length of the lists of the terms
 -- still to come are the length of all; the slices lie in the lists.
+use Rattle.std.specs.Prelude.{None, option_map}
 use mathlib.Core.Path.{◌≡◌}
-use mathlib.Core.Option.{none}
 use Prim.Native.Nat.{◌+◌, ◌-◌, ◌≤◌}
-use lib.Dec.{eqb}
 use lib.ListN.{length}
 use Rattle.segment.specs.Metadata.{document}
-use Rattle.segment.specs.Steps.{checked, earlier}
-use Rattle.segment.specs.Records.{between}
+use Rattle.segment.specs.Steps.{checked}
 use Rattle.segment.specs.Written.{lists_bytes}
 use Rattle.calls.specs.Given.{lists}
 use Rattle.common.specs.Lists.{paired}
@@ -20,10 +18,8 @@ abbrev pub invariant-loop-walk : goal.invariant-loop-walk
 invariant-loop-walk live =
     let l = lists live.ids live.lengths live.text live.ends live.posting_counts live.posting_ids live.position_counts live.positions in
     WalkFits live.walk l
-    × (live.before ≤ live.walk.name)
-    × (checked (check_terms (paired document live.ids live.lengths) (earlier (eqb live.walk.term 0) (between live.before live.walk.name live.text))
-    (terms_from live.walk l))
-    ≡ checked (check_terms (paired document live.ids live.lengths) none (terms_from start_walk l)))
+    × (checked (check_terms (paired document live.ids live.lengths) (option_map (λ p. p.now) live.previous) (terms_from live.walk l))
+    ≡ checked (check_terms (paired document live.ids live.lengths) None (terms_from start_walk l)))
     × (live.size + length (lists_bytes (terms_from live.walk l)) ≡ length (lists_bytes (terms_from start_walk l)))
     × (length (lists_bytes (terms_from start_walk l)) ≤ 251658240)
 

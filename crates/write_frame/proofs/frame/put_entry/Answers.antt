@@ -16,6 +16,6 @@ returns c =
           entry_stored a.out.now a.at a.name a.name_len a.lists a.list a.end a.df
           (sym (length-take-le (a.end - a.list) (drop a.list a.out.now) (omega (arith, length-drop a.list a.out.now)))) both.own
           c.put_u32-next.ensures c.put_u32-next-2.ensures c.put_u64-next.ensures c.put_u64-next-2.ensures
-          c.put_u32-next-3.ensures c.put_u32-next-4.ensures;
+          c.put_u32-next-3.ensures c.put_u32-entry.ensures;
       carried = both.run;
     }

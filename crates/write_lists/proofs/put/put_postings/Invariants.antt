@@ -1,6 +1,6 @@
 -- Once the bytes still to come are stored too, all are: ToStore. The positions still to come lie in their list.
-use Prim.Native.Nat.{◌+◌, ◌-◌, ◌≤◌}
-use mathlib.Core.Option.{none}
+use Rattle.std.specs.Prelude.{None}
+use Prim.Native.Nat.{◌+◌, ◌≤◌}
 use lib.ListN.{length, drop}
 use Rattle.common.specs.Lists.{total}
 use Rattle.segment.specs.Written.{postings_bytes}
@@ -11,10 +11,6 @@ use Rattle.write_lists.proofs.put.put_postings.Given as goal
 
 abbrev pub invariant-loop-i : goal.invariant-loop-i
 invariant-loop-i l =
-    (l.i ≤ length l.posting_ids)
-    × (l.from + total (drop l.i l.counts) ≤ length l.positions)
-    × ToStore (postings_bytes none (postings_in l.posting_ids l.counts l.positions)) l.at l.initial.out
+    (l.from + total (drop l.i l.counts) ≤ length l.positions)
+    × ToStore (postings_bytes None (postings_in l.posting_ids l.counts l.positions)) l.at l.initial.out
     (postings_left l.posting_ids l.counts l.positions l.previous l.from l.i) l.next l.out
-
-abbrev pub decreases-loop-i : goal.decreases-loop-i
-decreases-loop-i l = length l.posting_ids - l.i

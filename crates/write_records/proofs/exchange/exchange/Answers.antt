@@ -5,17 +5,13 @@ use Rattle.write_records.proofs.exchange.exchange.Goals as goal
 
 pub loop-i-init : goal.loop-i-init
 unfolding after
-loop-i-init c = record { within = omega arith; so_far = refl }
+loop-i-init c = refl
 
 pub loop-i-preserved : goal.loop-i-preserved
-loop-i-preserved c = record {
-  within = omega arith;
-  so_far = after_more c.loop-i.i (three c.args.documents.now c.args.ids.now c.args.lengths.now) _ c.loop-i.invariant.so_far;
-}
+loop-i-preserved c = after_more c.loop-i.i (three c.args.documents.now c.args.ids.now c.args.lengths.now) _ c.loop-i.invariant
 
 -- the walk ends at the shortest of the three
 pub returns : goal.returns
 returns c =
     let e : c.loop-i.i ≡ c.shortest-n.result = omega arith in
-    c.loop-i.invariant.so_far
-    ∙ after_all c.args.documents.now c.args.ids.now c.args.lengths.now c.loop-i.i (rw e c.shortest-n.ensures)
+    c.loop-i.invariant ∙ after_all c.args.documents.now c.args.ids.now c.args.lengths.now c.loop-i.i (rw e c.shortest-n.ensures)

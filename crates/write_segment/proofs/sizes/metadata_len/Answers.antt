@@ -1,10 +1,11 @@
+use Rattle.std.specs.Prelude.{Some}
 use mathlib.Core.Path.{◌≡◌, ap}
 use Prim.Native.Nat.{ℕ, ◌+◌}
 use native.Mathlib.Omega.{arith}
 use lib.ListN.{length, get_or, length-append}
 use Rattle.leb128.specs.Leb128.{encoded}
 use Rattle.calls.proofs.Lengths.{flat_metadata_size}
-use Rattle.write_lists.proofs.Left.{metadata_left, metadata_whole, metadata_next, metadata_end}
+use Rattle.write_lists.proofs.Left.{metadata_left, metadata_next, metadata_end}
 use Rattle.write_segment.proofs.sizes.metadata_len.Goals as goal
 use Rattle.write_segment.proofs.sizes.metadata_len.Goals.{After-encoded_len-in-loop-i}
 
@@ -13,7 +14,7 @@ loop-i-init c =
     let a = c.args in
     let ids = a.ids.now in
     let lengths = a.lengths.now in
-    (omega arith, omega (arith, ap length (metadata_whole ids lengths)), flat_metadata_size ids lengths)
+    (omega arith, flat_metadata_size ids lengths)
 
 -- what a turn takes off
 turn : (c : After-encoded_len-in-loop-i)
@@ -22,7 +23,7 @@ turn : (c : After-encoded_len-in-loop-i)
     let ids = a.ids.now in
     let lengths = a.lengths.now in
     length (metadata_left ids lengths l.previous l.i)
-    ≡ c.encoded_len.result + c.encoded_len-in-loop-i.result + length (metadata_left ids lengths (get_or ids l.i 0) (l.i + 1))
+    ≡ c.encoded_len.result + c.encoded_len-in-loop-i.result + length (metadata_left ids lengths (Some (get_or ids l.i 0)) (l.i + 1))
 turn c =
     let l = c.loop-i in
     let a = c.args in
@@ -38,14 +39,8 @@ overflow_add-size c = omega (arith, turn c)
 pub overflow_add-size-in-loop-i : goal.overflow_add-size-in-loop-i
 overflow_add-size-in-loop-i c = omega (arith, turn c)
 
-pub overflow_add-i : goal.overflow_add-i
-overflow_add-i c = omega arith
-
-pub loop-i-smaller : goal.loop-i-smaller
-loop-i-smaller c = omega arith
-
 pub loop-i-preserved : goal.loop-i-preserved
-loop-i-preserved c = (omega arith, omega (arith, turn c), c.loop-i.invariant.2)
+loop-i-preserved c = (omega (arith, turn c), c.loop-i.invariant.1)
 
 pub returns : goal.returns
 returns c =

@@ -1,7 +1,7 @@
 -- What was counted and the length of the bytes still to come are the length of all.
+use Rattle.std.specs.Prelude.{None}
 use mathlib.Core.Path.{◌≡◌}
-use mathlib.Core.Option.{none}
-use Prim.Native.Nat.{◌+◌, ◌-◌, ◌*◌, ◌≤◌}
+use Prim.Native.Nat.{◌+◌, ◌*◌, ◌≤◌}
 use lib.ListN.{length}
 use Rattle.segment.specs.Metadata.{document}
 use Rattle.common.specs.Lists.{paired}
@@ -11,9 +11,5 @@ use Rattle.write_segment.proofs.sizes.metadata_len.Given as goal
 
 abbrev pub invariant-loop-i : goal.invariant-loop-i
 invariant-loop-i l =
-    (l.i ≤ length l.ids)
-    × (l.size + length (metadata_left l.ids l.lengths l.previous l.i) ≡ length (metadata_bytes none (paired document l.ids l.lengths)))
-    × (length (metadata_bytes none (paired document l.ids l.lengths)) ≤ 10 * length l.ids)
-
-abbrev pub decreases-loop-i : goal.decreases-loop-i
-decreases-loop-i l = length l.ids - l.i
+    (l.size + length (metadata_left l.ids l.lengths l.previous l.i) ≡ length (metadata_bytes None (paired document l.ids l.lengths)))
+    × (length (metadata_bytes None (paired document l.ids l.lengths)) ≤ 10 * length l.ids)

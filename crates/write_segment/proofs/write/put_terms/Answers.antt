@@ -1,7 +1,7 @@
+use Rattle.std.specs.Prelude.{None}
 use mathlib.Core.Path.{◌≡◌}
 use Prim.Native.Nat.{◌+◌}
 use native.Mathlib.Omega.{arith}
-use mathlib.Core.Option.{none}
 use Rattle.calls.specs.Given.{Lists, lists}
 use Rattle.segment.specs.Written.{postings_bytes}
 use Rattle.common.specs.Stores.{Stored}
@@ -35,7 +35,7 @@ last-is c = omega (arith, c.long.ensures)
 
 -- the term's list is stored
 listed : (c : After-put_postings-end)
-    → Stored (postings_bytes none (postings_at c.loop-walk.walk ((let a4 = c.args in
+    → Stored (postings_bytes None (postings_at c.loop-walk.walk ((let a4 = c.args in
     lists a4.ids.now a4.lengths.now a4.text.now a4.ends.now a4.posting_counts.now a4.posting_ids.now
     a4.position_counts.now a4.positions.now)))) c.loop-walk.list c.loop-walk.out
     c.put_postings-end.result c.put_postings-end.new.out

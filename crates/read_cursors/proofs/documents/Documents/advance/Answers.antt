@@ -17,14 +17,14 @@ returns-then-self-eq0 c =
       less = search rules;
     }
 
-pub returns-in-Sure : goal.returns-in-Sure
-returns-in-Sure c =
+pub returns-in-Some : goal.returns-in-Some
+returns-in-Some c =
     let a = c.args in
     let s = a.meta.now in
     let p = a.self in
     record {
       list =
-          enter_next s p.at _ 1 (p.remaining - 1) _ _ _ (sym (sure_document s _ c.short_document.ensures c.in-Sure.is))
+          enter_next s p.at _ 1 (p.remaining - 1) _ _ _ (sym (sure_document s _ c.short_document.ensures c.in-Some.is))
           ∙ documents_past s p.remaining p.at p.id.0 p.len c.if-self-eq0.false;
       less = search rules;
     }

@@ -10,14 +10,14 @@ returns-then-remaining-eq0 c =
     let a = c.args in
     record { list = enter_none a.meta.now a.from.at _ a.remaining _ _ _ c.if-remaining-eq0.true; less = search rules }
 
-pub returns-in-Next : goal.returns-in-Next
-returns-in-Next c =
+pub returns-in_default : goal.returns-in_default
+returns-in_default c =
     let a = c.args in
-    let e = sym c.read_document_each.ensures ∙ ap (document_means a.meta.now) c.in-Next.is in
-    record { list = enter_next a.meta.now a.from.at _ a.index a.remaining _ _ _ e; less = search rules }
-
-pub returns-in-Refused : goal.returns-in-Refused
-returns-in-Refused c =
-    let a = c.args in
-    let e = sym c.read_document_each.ensures ∙ ap (document_means a.meta.now) c.in-Refused.is in
+    let e = sym c.read_document_each.ensures ∙ ap (document_means a.meta.now) c.in_default.is in
     record { list = enter_refused a.meta.now a.from.at _ a.index a.remaining _ _ _ e; less = search rules }
+
+pub returns : goal.returns
+returns c =
+    let a = c.args in
+    let e = sym c.read_document_each.ensures ∙ ap (document_means a.meta.now) c.in-Ok.is in
+    record { list = enter_next a.meta.now a.from.at _ a.index a.remaining _ _ _ e; less = search rules }

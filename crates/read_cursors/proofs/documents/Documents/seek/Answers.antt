@@ -15,9 +15,9 @@ ahead l = let p = l.loop-c.c in documents_ahead _ p.remaining p.at p.id.0 p.len
 pub loop-c-init : goal.loop-c-init
 loop-c-init c = refl
 
-pub returns-then-id-here : goal.returns-then-id-here
-returns-then-id-here c =
-    record { list = seek_stop _ (ahead (goal.at.returns-then-id-here c).At-loop-c) c.loop-c.invariant (omega arith); reached = λ h. omega arith }
+pub returns-then-id-c : goal.returns-then-id-c
+returns-then-id-c c =
+    record { list = seek_stop _ (ahead (goal.at.returns-then-id-c c).At-loop-c) c.loop-c.invariant (omega arith); reached = λ h. omega arith }
 
 pub loop-c-preserved : goal.loop-c-preserved
 loop-c-preserved c =

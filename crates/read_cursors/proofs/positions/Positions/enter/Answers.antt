@@ -9,11 +9,11 @@ returns-then-remaining-eq0 c =
     let a = c.args in
     record { holds = positions_end a.bytes.now a.from.at _ a.remaining _ _ c.if-remaining-eq0.true; less = search rules }
 
-pub returns-in-Refused : goal.returns-in-Refused
-returns-in-Refused c =
+pub returns-in_default : goal.returns-in_default
+returns-in_default c =
     let a = c.args in
     let s = a.bytes.now in
-    let e = sym c.read_value.ensures ∙ ap (value_means s) c.in-Refused.is in
+    let e = sym c.read_value.ensures ∙ ap (value_means s) c.in_default.is in
     record {
       holds = positions_refused s a.from.at _ a.remaining _ _ (value_refused _ _ _ _ _ _ _ _ e).1;
       less = search rules;
@@ -23,8 +23,8 @@ pub returns : goal.returns
 returns c =
     let a = c.args in
     let s = a.bytes.now in
-    let e = sym c.read_value.ensures ∙ ap (value_means s) c.in-Next.is in
+    let e = sym c.read_value.ensures ∙ ap (value_means s) c.in-Ok.is in
     record {
-      holds = positions_next s a.from.at _ a.remaining c.in-Next.value (value_ok _ _ _ _ _ _ _ _ e);
+      holds = positions_next s a.from.at _ a.remaining c.in-Ok.gap (value_ok _ _ _ _ _ _ _ _ e);
       less = search rules;
     }

@@ -14,9 +14,9 @@ ahead l = let p = l.loop-c.c in positions_ahead _ p.remaining p.at p.pos.0
 pub loop-c-init : goal.loop-c-init
 loop-c-init c = refl
 
-pub returns-then-target-here : goal.returns-then-target-here
-returns-then-target-here c =
-    record { holds = seek_stop _ (ahead (goal.at.returns-then-target-here c).At-loop-c) c.loop-c.invariant (omega arith); reached = λ h. omega arith }
+pub returns-then-target-c : goal.returns-then-target-c
+returns-then-target-c c =
+    record { holds = seek_stop _ (ahead (goal.at.returns-then-target-c c).At-loop-c) c.loop-c.invariant (omega arith); reached = λ h. omega arith }
 
 pub loop-c-preserved : goal.loop-c-preserved
 loop-c-preserved c =

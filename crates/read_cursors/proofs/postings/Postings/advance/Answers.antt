@@ -2,6 +2,5 @@
 use Rattle.read_cursors.proofs.QuickSteps.{sure_posting}
 use Rattle.read_cursors.proofs.postings.Postings.advance.Goals as goal
 
-pub returns-in-Sure : goal.returns-in-Sure
-returns-in-Sure c =
-    sure_posting c.args.bytes.now _ c.advance_short.ensures c.in-Sure.is
+pub returns-in-Some : goal.returns-in-Some
+returns-in-Some c = sure_posting c.args.bytes.now _ c.advance_short.ensures c.in-Some.is

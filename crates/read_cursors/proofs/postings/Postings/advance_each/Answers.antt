@@ -1,5 +1,5 @@
+use Rattle.std.specs.Prelude.{Some}
 use mathlib.Core.Path.{ap, ◌∙◌}
-use mathlib.Core.Option.{some}
 use Prim.Native.Nat.{◌-◌}
 use native.Mathlib.Omega.{arith}
 use Rattle.read_cursors.specs.Held.{held_postings}
@@ -21,7 +21,7 @@ returns c =
     let a = c.args in
     let p = a.self in
     record {
-      holds = c.enter.ensures.holds ∙ ap (held_postings (p.remaining - 1) (some p.doc.0)) c.skip-past.ensures
+      holds = c.enter.ensures.holds ∙ ap (held_postings (p.remaining - 1) (Some p.doc.0)) c.skip-past.ensures
           ∙ postings_past a.bytes.now p.remaining p.at p.count p.doc.0 c.if-self-eq0.false;
       less = c.enter.ensures.less;
     }

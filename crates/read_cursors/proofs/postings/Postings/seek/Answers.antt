@@ -6,7 +6,7 @@ use Rattle.read_cursors.proofs.Seeks.{Ahead, seek_stop, seek_end, seek_next}
 use Rattle.read_cursors.proofs.Entering.{postings_ahead}
 use Rattle.read_cursors.proofs.QuickSteps.{sure_posting}
 use Rattle.read_cursors.proofs.postings.Postings.seek.Goals as goal
-use Rattle.read_cursors.proofs.postings.Postings.seek.Goals.{At-loop-c, In-Sure}
+use Rattle.read_cursors.proofs.postings.Postings.seek.Goals.{At-loop-c, In-Some}
 
 ahead : (l : At-loop-c)
     → let p = l.loop-c.c in Ahead (λ (x : PostingAt). x.doc) p.doc.0 p.remaining
@@ -16,21 +16,21 @@ ahead l = let p = l.loop-c.c in postings_ahead _ p.remaining p.at p.count p.doc.
 pub loop-c-init : goal.loop-c-init
 loop-c-init c = refl
 
-pub returns-then-target-here : goal.returns-then-target-here
-returns-then-target-here c =
-    record { holds = seek_stop _ (ahead (goal.at.returns-then-target-here c).At-loop-c) c.loop-c.invariant (omega arith); reached = λ h. omega arith }
+pub returns-then-target-c : goal.returns-then-target-c
+returns-then-target-c c =
+    record { holds = seek_stop _ (ahead (goal.at.returns-then-target-c c).At-loop-c) c.loop-c.invariant (omega arith); reached = λ h. omega arith }
 
 -- the cursor that was advanced at once
-short : (c : In-Sure)
-    → AdvancedPostings c.args.bytes.now c.loop-c.c c.in-Sure.next
-short c = sure_posting _ _ c.advance_short.ensures c.in-Sure.is
+short : (c : In-Some)
+    → AdvancedPostings c.args.bytes.now c.loop-c.c c.in-Some.next
+short c = sure_posting _ _ c.advance_short.ensures c.in-Some.is
 
-pub loop-c-smaller-in-Sure : goal.loop-c-smaller-in-Sure
-loop-c-smaller-in-Sure c = omega (arith, (short c).less)
+pub loop-c-smaller-in-Some : goal.loop-c-smaller-in-Some
+loop-c-smaller-in-Some c = omega (arith, (short c).less)
 
-pub loop-c-preserved-in-Sure : goal.loop-c-preserved-in-Sure
-loop-c-preserved-in-Sure c =
-    seek_next _ (ahead (goal.at.loop-c-preserved-in-Sure c).At-loop-c) c.loop-c.invariant (omega arith) (short c).holds
+pub loop-c-preserved-in-Some : goal.loop-c-preserved-in-Some
+loop-c-preserved-in-Some c =
+    seek_next _ (ahead (goal.at.loop-c-preserved-in-Some c).At-loop-c) c.loop-c.invariant (omega arith) (short c).holds
 
 pub loop-c-preserved : goal.loop-c-preserved
 loop-c-preserved c =

@@ -1,8 +1,7 @@
--- The walk past a term; its positions are at most what numbers of 32 bits add up to.
+-- The positions of a term are at most what numbers of 32 bits add up to.
 use Prim.Native.Nat.{◌+◌}
 use native.Mathlib.Omega.{arith}
 use Rattle.calls.proofs.Parts.{total_part, total_below}
-use Rattle.write_check_all.proofs.Walking.{next_is}
 use Rattle.write_check_all.proofs.walk.Walk.next.Goals as goal
 
 pub overflow_add-result-2 : goal.overflow_add-result-2
@@ -14,9 +13,3 @@ overflow_add-result-2 c =
       total_part a.self.posting (a.self.posting + c.long.result) a.position_counts.now,
       total_below a.position_counts.now (λ i. omega (arith, c.type_inv.position_counts i)),
     )
-
-pub returns : goal.returns
-returns c =
-    let a = c.args in
-    next_is a.self a.ends.now a.posting_counts.now a.position_counts.now c.long-2.ensures
-    c.long.ensures c.total_of-past.ensures
