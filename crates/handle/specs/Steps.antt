@@ -1,18 +1,13 @@
 -- What the decoding of all lists answers.
-use Rattle.std.specs.Prelude.{Err, None, Ok, ℕ, ◌+◌, ◌≤◌, ◌<◌, ◌≡◌, List, length, get_or, drop}
+use Rattle.std.specs.Prelude.{Err, Ok, ℕ, ◌+◌, ◌≤◌, ◌<◌, ◌≡◌, List, get_or, drop}
 use Rattle.segment.specs.Results.{Answer}
 use Rattle.segment.specs.Records.{Segment}
-use Rattle.segment.specs.Postings.{decode}
 use Rattle.segment.specs.Contents.{decode_all}
 use Rattle.segment.specs.Steps.{checked}
 use Rattle.calls.specs.Whole.{every_list}
-use Rattle.read_cursors.specs.Held.{held_documents}
 use Rattle.read_open.specs.declared.header.Layout.{Layout}
-use Rattle.read_open.specs.Steps.{cut}
 use Rattle.read_open.specs.Opened.{IsOpen, no_entry}
-use Rattle.read_terms.specs.declared.find.TermList.{TermList}
-use Rattle.read_terms.specs.Steps.{list_entry}
-use Rattle.read_terms.specs.Together.{no_list, ListDecodes}
+use Rattle.read_terms.specs.Together.{ListDecodes}
 
 -- all lists decoded, whichever segment the layout is said to be of
 abbrev pub ListsChecked : List ℕ → Layout → Answer (Unit {0}) → Type 0
@@ -25,12 +20,6 @@ pub record BatchSize (remaining r : ℕ) : Type 0 where
   pub within : r ≤ remaining
   pub few : r ≤ 128
   pub some : 0 < remaining → 0 < r
-
--- list k is that of the entry k after `from`
-pub record BatchFilled (bytes : List ℕ) (l : Layout) (from : ℕ) (lists : List TermList) : Type 0 where
-  pub each : (k : ℕ) → k < length lists → (s : Segment) → IsOpen bytes l s
-      → decode s.documents (get_or s.entries (from + k) no_entry)
-      ≡ decode (held_documents l.documents None (cut bytes l).metadata) (list_entry bytes (get_or lists k no_list))
 
 -- the lists of m entries from an index on decode
 pub record BatchDecodes (bytes : List ℕ) (l : Layout) (from m : ℕ) : Type 0 where

@@ -116,11 +116,16 @@ impl Postings {
             if target <= c.doc.0 as u64 {
                 return c;
             }
-            // `advance`, written out: `advance_each` then stays a call of its own, and the cursor stays in registers
-            c = match c.advance_short(bytes) {
-                Some(next) => next,
-                None => c.advance_each(bytes),
-            };
+            // `advance`, written out: `advance_each` then stays a call of its own, and the cursor stays in registers. Each way stores it
+            // by itself: `c = match ..` would take every cursor through a second place on the stack.
+            match c.advance_short(bytes) {
+                Some(next) => {
+                    c = next;
+                }
+                None => {
+                    c = c.advance_each(bytes);
+                }
+            }
         }
         c
     }

@@ -47,12 +47,13 @@ pub fn put_four_u64(out: &mut [u8], at: usize, w: usize, x: usize, y: usize, z: 
     put_u64(out, fourth, z)
 }
 
-// A byte string.
+// A byte string. Byte by byte, as `copy_from_slice` would make the library for C ask for `memmove`.
 pub fn put_bytes(out: &mut [u8], at: usize, bytes: &[u8]) -> usize
     requires { at + length bytes.now ≤ length out.old }
     ensures { Stored bytes.now at out.old result out.new }
 {
-    let next = at + bytes.len();
-    out[at..next].copy_from_slice(bytes);
-    next
+    for i in 0..bytes.len() {
+        out[at + i] = bytes[i];
+    }
+    at + bytes.len()
 }

@@ -1,21 +1,16 @@
--- What is copied over a part is stored there.
-use mathlib.Core.Path.{◌≡◌, refl, sym, ◌∙◌}
-use mathlib.Core.List.{append_assoc}
-use Prim.Native.Nat.{◌+◌, ◌-◌}
+use mathlib.Core.Path.{refl}
 use native.Mathlib.Omega.{arith}
-use lib.ListN.{length, take, drop}
-use lib.Seq.{sets-eq, drop-drop}
+use Rattle.common.proofs.Loops.{drop_step}
+use Rattle.common.proofs.Stores.{storing_start, storing_next, storing_end}
 use Rattle.write_frame.proofs.numbers.put_bytes.Goals as goal
 
+pub loop-i-init : goal.loop-i-init
+loop-i-init c = storing_start _ _ _
+
+pub loop-i-preserved : goal.loop-i-preserved
+loop-i-preserved c =
+    let l = c.loop-i in
+    storing_next l.invariant refl (drop_step c.args.bytes.now l.i 0 (omega arith))
+
 pub returns : goal.returns
-returns c =
-    let at = c.args.at in
-    let bytes = c.args.bytes.now in
-    let out = c.args.out.now in
-    let k : at + length bytes - at ≡ length bytes = omega arith in
-    record {
-      past = refl;
-      left =
-          rw (c.copy_from_slice.ensures.after, k, drop-drop (length bytes) at out)
-          (sym (sets-eq bytes out at c.requires ∙ append_assoc (take at out) bytes (drop (at + length bytes) out)));
-    }
+returns c = storing_end c.loop-i.invariant (omega arith) (omega arith)
