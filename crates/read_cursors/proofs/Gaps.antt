@@ -21,7 +21,9 @@ use Rattle.segment.specs.declared.refusal.Refusal.{Refusal}
 use Rattle.segment.specs.Refusals.{postings, invalid_varint}
 use Rattle.segment.specs.Records.{Read, number, number_or, at_gap, rises}
 use Rattle.segment.specs.Postings.{read_value}
+use Rattle.segment.specs.Results.{Answer, ◌>>=◌, check}
 use Rattle.read_cursors.specs.Held.{past, skipped}
+use Rattle.read_cursors.specs.Steps.{number_else, value_after, read_rising}
 use Rattle.segment.proofs.Binds.{refuse_ok, ok_same, bind_gives, both_gives, carried}
 
 -- a number takes no more bytes than there are
@@ -118,31 +120,90 @@ value_shorter over order i previous bytes {n} e =
 pub further : (s : List ℕ) (a b : ℕ) → length (drop b s) < length (drop a s) → a < b
 further s a b h = omega (arith, length-drop a s, length-drop b s)
 
--- a value that rises, in the order of the code's tests
+-- a number by what it is refused with, whatever that is
+module _ {E : Type 0} (malformed : E) (s : List ℕ) (at : ℕ) where
+  else_none : (o : Option Leb) → decoded at o ≡ None → number_else malformed (drop at s) o ≡ Err malformed
+  else_none None e = refl
+  else_none (Some r) e = let z : ◌≡◌ {A = ℕ} 0 1 = cc in absurd (omega arith)
+
+  else_value : {n : Number} (o : Option Leb) → decoded at o ≡ Some n
+      → number_else malformed (drop at s) o ≡ Ok (record { got = n.value; rest = drop n.next.at s })
+  else_value None e = let z : ◌≡◌ {A = ℕ} 0 1 = cc in absurd (omega arith)
+  else_value (Some r) e = rw (drop-drop, (fields s at r e).0, (fields s at r e).1)
+
+-- a value that rises, whatever its refusals, in the order of the code's tests
+module _ {E : Type 0} (malformed over order : E) (s : List ℕ) (at : ℕ) where
+  pub rising_none : (previous : Option ℕ) → decoded_at s at ≡ None → Err malformed ≡ read_rising malformed over order previous (drop at s)
+  unfolding read_rising
+  rising_none previous e = rw (else_none malformed s at (stored (drop at s)) e)
+
+  module _ {n : Number} (e : decoded_at s at ≡ Some n) where
+    pub rising_first : Ok (record { got = n.value; rest = drop n.next.at s }) ≡ read_rising malformed over order None (drop at s)
+    unfolding read_rising
+    rising_first = rw (else_value malformed s at (stored (drop at s)) e, lt-ltb n.value (2 ^ 32) (number_taken s at e).small)
+
+    module _ (p : ℕ) where
+      pub rising_over : 2 ^ 32 ≤ p + n.value → Err over ≡ read_rising malformed over order (Some p) (drop at s)
+      unfolding read_rising
+      rising_over h = rw (else_value malformed s at (stored (drop at s)) e, le-ltb (p + n.value) (2 ^ 32) h)
+
+      pub rising_low : p + n.value < 2 ^ 32 → p + n.value ≤ p → Err order ≡ read_rising malformed over order (Some p) (drop at s)
+      unfolding read_rising
+      rising_low h k =
+          rw (else_value malformed s at (stored (drop at s)) e, lt-ltb (p + n.value) (2 ^ 32) h, le-ltb p (p + n.value) k)
+
+      pub rising_next : p + n.value < 2 ^ 32 → p < p + n.value
+          → Ok (record { got = p + n.value; rest = drop n.next.at s }) ≡ read_rising malformed over order (Some p) (drop at s)
+      unfolding read_rising
+      rising_next h k =
+          rw (else_value malformed s at (stored (drop at s)) e, lt-ltb (p + n.value) (2 ^ 32) h, lt-ltb p (p + n.value) k)
+
+-- with the refusals of a segment it is the value that the format defines
+module _ (over order : Refusal) (i : ℕ) (previous : Option ℕ) where
+  number_is : (bytes : List ℕ) (o : Option Leb) → number_or postings i bytes o ≡ number_else (invalid_varint postings i) bytes o
+  number_is bytes None = refl
+  number_is bytes (Some r) = refl
+
+  tests_are : (t u : Bool) (m : Read ℕ)
+      → (check t over >>= (λ _. check u order >>= (λ _. Ok m))) ≡ cond t (cond u (Ok m) (Err order)) (Err over)
+  tests_are true true m = refl
+  tests_are true false m = refl
+  tests_are false true m = refl
+  tests_are false false m = refl
+
+  after_is : (g : Answer (Read ℕ))
+      → (g >>= (λ gap. check (ltb (at_gap previous gap.got) (2 ^ 32)) over
+      >>= (λ _. check (rises previous (at_gap previous gap.got)) order
+      >>= (λ _. Ok (record { got = at_gap previous gap.got; rest = gap.rest })))))
+      ≡ value_after over order previous g
+  after_is (Ok gap) = tests_are _ _ _
+  after_is (Err x) = refl
+
+  pub value_is : (bytes : List ℕ)
+      → read_value over order i previous bytes ≡ read_rising (invalid_varint postings i) over order previous bytes
+  unfolding read_value read_rising
+  value_is bytes = after_is (number postings i bytes) ∙ ap (value_after over order previous) (number_is bytes (stored bytes))
+
+-- the same of the format's value
 module _ (over order : Refusal) (i : ℕ) (s : List ℕ) (at : ℕ) where
   pub value_none : (previous : Option ℕ) → decoded_at s at ≡ None
       → Err (invalid_varint postings i) ≡ read_value over order i previous (drop at s)
-  unfolding read_value
-  value_none previous e = rw (number_refused s at postings i e)
+  value_none previous e = rising_none _ over order s at previous e ∙ sym (value_is over order i previous (drop at s))
 
   module _ {n : Number} (e : decoded_at s at ≡ Some n) where
     pub value_first : Ok (record { got = n.value; rest = drop n.next.at s }) ≡ read_value over order i None (drop at s)
-    unfolding read_value
-    value_first = rw (number_value s at postings i e, lt-ltb n.value (2 ^ 32) (number_taken s at e).small)
+    value_first = rising_first _ over order s at e ∙ sym (value_is over order i None (drop at s))
 
     module _ (p : ℕ) where
       pub value_over : 2 ^ 32 ≤ p + n.value → Err over ≡ read_value over order i (Some p) (drop at s)
-      unfolding read_value
-      value_over h = rw (number_value s at postings i e, le-ltb (p + n.value) (2 ^ 32) h)
+      value_over h = rising_over _ over order s at e p h ∙ sym (value_is over order i (Some p) (drop at s))
 
       pub value_low : p + n.value < 2 ^ 32 → p + n.value ≤ p → Err order ≡ read_value over order i (Some p) (drop at s)
-      unfolding read_value
-      value_low h k = rw (number_value s at postings i e, lt-ltb (p + n.value) (2 ^ 32) h, le-ltb p (p + n.value) k)
+      value_low h k = rising_low _ over order s at e p h k ∙ sym (value_is over order i (Some p) (drop at s))
 
       pub value_next : p + n.value < 2 ^ 32 → p < p + n.value
           → Ok (record { got = p + n.value; rest = drop n.next.at s }) ≡ read_value over order i (Some p) (drop at s)
-      unfolding read_value
-      value_next h k = rw (number_value s at postings i e, lt-ltb (p + n.value) (2 ^ 32) h, lt-ltb p (p + n.value) k)
+      value_next h k = rising_next _ over order s at e p h k ∙ sym (value_is over order i (Some p) (drop at s))
 
 -- past a number, or nowhere
 module _ (s : List ℕ) (at : ℕ) (next : List ℕ → List ℕ) where

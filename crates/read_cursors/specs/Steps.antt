@@ -1,10 +1,12 @@
 -- What the code's answers on the way mean, as the definitions have it: a step that read something means what it read and the bytes
 -- from the next offset on.
-use Rattle.std.specs.Prelude.{Err, None, Ok, Option, Some, ℕ, zero, suc, ◌-◌, ◌≤◌, ◌<◌, List, [], ◌∷◌, drop, ◌≡◌}
+use Rattle.std.specs.Prelude.{Err, None, Ok, Option, Result, Some, ℕ, zero, suc, ◌-◌, ◌^◌, ◌≤◌, ◌<◌, List, [], ◌∷◌, drop, ◌≡◌}
+use Rattle.std.specs.Prelude.{cond, ltb}
 use Rattle.read_cursors.specs.declared.documents.DocumentRead.{DocumentRead}
 use Rattle.leb128.specs.declared.varint.Number.{Number}
+use Rattle.leb128.specs.Leb128.{Leb, stored}
 use Rattle.segment.specs.Results.{Answer}
-use Rattle.segment.specs.Records.{Document, Read}
+use Rattle.segment.specs.Records.{Document, Read, at_gap, rises}
 use Rattle.segment.specs.Metadata.{document}
 use Rattle.read_cursors.specs.declared.documents.Documents.{Documents}
 use Rattle.read_cursors.specs.Held.{rest_of, seek_in, held_documents, skipped, PostingAt, held_postings, held_positions}
@@ -22,9 +24,29 @@ ShortRead meta there None = Unit {0}
 
 -- ---- posting lists
 
-abbrev pub value_means : List ℕ → Answer Number → Answer (Read ℕ)
+abbrev pub value_means : {E : Type 0} → List ℕ → Result Number E → Result (Read ℕ) E
 value_means list (Ok n) = Ok (record { got = n.value; rest = drop n.next.at list })
 value_means list (Err x) = Err x
+
+-- a stored number, or what is refused with where there is none
+abbrev pub number_else : {E : Type 0} (malformed : E) (bytes : List ℕ) → Option Leb → Result (Read ℕ) E
+number_else malformed bytes (Some n) = Ok (record { got = n.value; rest = drop n.size bytes })
+number_else malformed bytes None = Err malformed
+
+-- the value at a gap that was read: overflow, order
+abbrev pub value_after : {E : Type 0} (overflow order : E) (previous : Option ℕ) → Result (Read ℕ) E → Result (Read ℕ) E
+value_after overflow order previous (Ok gap) =
+    cond (ltb (at_gap previous gap.got) (2 ^ 32))
+    (cond (rises previous (at_gap previous gap.got))
+    (Ok (record { got = at_gap previous gap.got; rest = gap.rest }))
+    (Err order))
+    (Err overflow)
+value_after overflow order previous (Err x) = Err x
+
+-- A value that rises, whatever the refusals are: the number, overflow, order. With the refusals of a segment it is `read_value` of crate
+-- segment (proofs/Gaps.antt, `value_is`).
+unfoldable pub read_rising : {E : Type 0} (malformed overflow order : E) (previous : Option ℕ) (bytes : List ℕ) → Result (Read ℕ) E
+read_rising malformed overflow order previous bytes = value_after overflow order previous (number_else malformed bytes (stored bytes))
 
 unfoldable pub documents_at : (remaining at id len : ℕ) (bytes : List ℕ) → List Document
 documents_at zero at id len bytes = []

@@ -2,7 +2,7 @@
 ghost use Rattle.std.specs.Prelude.{◌≡◌, drop};
 ghost use Rattle.segment.specs.Refusals.{invalid_layout};
 ghost use Rattle.segment.specs.Postings.{read_value};
-ghost use Rattle.read_cursors.specs.Steps.{value_means};
+ghost use Rattle.read_cursors.specs.Steps.{value_means, read_rising};
 ghost use Rattle.read_cursors.specs.Held.{skipped};
 
 use crate::singles::all_single;
@@ -10,8 +10,38 @@ use common::widths::long;
 use leb128::varint::{Number, Reader};
 use segment::refusal::{Reason, Refusal, Section};
 
-// The value at the reader: the number, overflow (refused by `overflow`), order (for reason `order`). It serves document ids and positions
-// alike, so it takes and returns plain u32; its callers make `DocId` and `TokenPos`.
+// The value at the reader: the number (else `malformed`), overflow (refused by `overflow`), order (by `order`). It serves document ids and
+// positions alike, so it takes and returns plain u32; its callers make `DocId` and `TokenPos`.
+pub fn read_rising<E: Copy>(
+    list: &[u8],
+    from: Reader,
+    previous: Option<u32>,
+    malformed: E,
+    overflow: E,
+    order: E,
+) -> Result<Number, E>
+    ensures { value_means list.now result ≡ read_rising malformed overflow order previous (drop from.at list.now) }
+{
+    let Some(gap) = from.decode_u32(list) else {
+        return Err(malformed);
+    };
+    let Some(before) = previous else {
+        return Ok(gap);
+    };
+    if u32::MAX - before < gap.value {
+        return Err(overflow);
+    }
+    let value = before + gap.value;
+    if value <= before {
+        return Err(order);
+    }
+    Ok(Number {
+        value,
+        next: gap.next,
+    })
+}
+
+// The value at the reader: the number, overflow (refused by `overflow`), order (for reason `order`).
 pub fn read_value(
     list: &[u8],
     from: Reader,
@@ -22,23 +52,14 @@ pub fn read_value(
 ) -> Result<Number, Refusal>
     ensures { value_means list.now result ≡ read_value overflow (invalid_layout order) index previous (drop from.at list.now) }
 {
-    let Some(gap) = from.decode_u32(list) else {
-        return Err(Refusal::InvalidVarint(Section::Postings, index));
-    };
-    let Some(before) = previous else {
-        return Ok(gap);
-    };
-    if u32::MAX - before < gap.value {
-        return Err(overflow);
-    }
-    let value = before + gap.value;
-    if value <= before {
-        return Err(Refusal::InvalidLayout(order));
-    }
-    Ok(Number {
-        value,
-        next: gap.next,
-    })
+    read_rising(
+        list,
+        from,
+        previous,
+        Refusal::InvalidVarint(Section::Postings, index),
+        overflow,
+        Refusal::InvalidLayout(order),
+    )
 }
 
 // The reader after `count` numbers, or at the first malformed one, number by number.

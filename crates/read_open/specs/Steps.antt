@@ -1,6 +1,6 @@
 -- What the header's code answers, as the definitions of Opening have it: a layout means the sections that it cuts the bytes into.
 use Rattle.segment.specs.declared.refusal.Section.{Section}
-use Rattle.std.specs.Prelude.{Err, None, Ok, Option, Some, option_map}
+use Rattle.std.specs.Prelude.{Err, None, Ok, Option, Result, Some, option_map}
 use Rattle.std.specs.Option.{ForSome}
 use Rattle.std.specs.Prelude.{ℕ, ◌+◌, ◌^◌, ◌≤◌, ◌*◌, ◌<◌, ◌≡◌, cond, Bool, true, List, ltb, leb, length, take, drop}
 use Rattle.read_open.specs.declared.header.Layout.{Layout}
@@ -13,11 +13,15 @@ use Rattle.read_open.specs.declared.directory.NameRange.{NameRange}
 use Rattle.segment.specs.Names.{precedes}
 use Rattle.segment.specs.Directory.{follows, read_entry}
 
-abbrev pub range_end : (section : Section) (at n whole : ℕ) → Answer ℕ
-range_end section at n whole =
+-- the end of n bytes from an offset on, whatever the refusals are: it fits 64 bits, and is not past the whole
+abbrev pub end_within : {E : Type 0} (at n whole : ℕ) (overflow short : E) → Result ℕ E
+end_within at n whole overflow short =
     cond (ltb (at + n) (2 ^ 64))
-    (cond (leb (at + n) whole) (Ok (at + n)) (Err (truncated section)))
-    (Err (invalid_layout section_range_overflow))
+    (cond (leb (at + n) whole) (Ok (at + n)) (Err short))
+    (Err overflow)
+
+abbrev pub range_end : (section : Section) (at n whole : ℕ) → Answer ℕ
+range_end section at n whole = end_within at n whole (invalid_layout section_range_overflow) (truncated section)
 
 -- the sections that a layout cuts the bytes into
 abbrev pub cut : List ℕ → Layout → Sections

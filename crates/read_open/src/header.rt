@@ -2,7 +2,7 @@
 ghost use Rattle.std.specs.Prelude.{◌≡◌, true, ◌↔◌, ◌≤◌, length};
 ghost use Rattle.segment.specs.Records.{header_size};
 ghost use Rattle.segment.specs.Opening.{sections, ranges};
-ghost use Rattle.read_open.specs.Steps.{range_end, Reads};
+ghost use Rattle.read_open.specs.Steps.{end_within, range_end, Reads};
 ghost use Rattle.read_open.specs.Opened.{Fits};
 
 use common::widths::long;
@@ -20,17 +20,36 @@ pub struct Layout {
     pub lists: usize,
 }
 
+// The offset after `n` bytes from offset `at`: `overflow` where it does not fit 64 bits, `short` where it is past `whole`.
+pub fn checked_end<E: Copy>(
+    at: usize,
+    n: usize,
+    whole: usize,
+    overflow: E,
+    short: E,
+) -> Result<usize, E>
+    ensures { result ≡ end_within at n whole overflow short }
+{
+    if usize::MAX - at < n {
+        return Err(overflow);
+    }
+    if whole < at + n {
+        return Err(short);
+    }
+    Ok(at + n)
+}
+
 // The offset after `n` bytes from offset `at`: it fits 64 bits and is not past `whole`.
 pub fn checked_range(at: usize, n: usize, whole: usize, section: Section) -> Result<usize, Refusal>
     ensures { result ≡ range_end section at n whole }
 {
-    if usize::MAX - at < n {
-        return Err(Refusal::InvalidLayout(Reason::SectionRangeOverflow));
-    }
-    if whole < at + n {
-        return Err(Refusal::Truncated(section));
-    }
-    Ok(at + n)
+    checked_end(
+        at,
+        n,
+        whole,
+        Refusal::InvalidLayout(Reason::SectionRangeOverflow),
+        Refusal::Truncated(section),
+    )
 }
 
 // The four ranges, the first bad one first; then trailing bytes.
