@@ -6,6 +6,7 @@ use Rattle.segment.specs.Results.{Answer}
 use Rattle.segment.specs.declared.replies.Counts.{Counts}
 use Rattle.segment.specs.declared.replies.ListTotals.{ListTotals}
 use Rattle.segment.specs.declared.replies.Totals.{Totals}
+use Rattle.segment.specs.declared.refusal.Numbers.{Numbers}
 use Rattle.segment.specs.declared.refusal.Refusal.{Refusal}
 use Rattle.segment.specs.declared.replies.BarRead.{BarRead}
 use Rattle.c_reply.specs.declared.reply.Reply.{Reply}
@@ -16,16 +17,12 @@ accepted_four a b c d = record { kind = 0; which = 0; index = 0; first = a; seco
 abbrev pub accepted : (first second : ℕ) → Reply
 accepted a b = accepted_four a b 0 0
 
+-- a refusal by its three numbers, whichever they are
+abbrev pub refused_with : Numbers → Reply
+refused_with x = record { kind = x.kind; which = x.which; index = x.index; first = 0; second = 0; third = 0; fourth = 0 }
+
 abbrev pub refused : Refusal → Reply
-refused x = record {
-  kind = (numbers x).kind;
-  which = (numbers x).which;
-  index = (numbers x).index;
-  first = 0;
-  second = 0;
-  third = 0;
-  fourth = 0;
-}
+refused x = refused_with (numbers x)
 
 -- documents and terms
 abbrev pub opened_reply : Answer Counts → Reply

@@ -1,6 +1,6 @@
 // One reply for all calls: kind 0 is acceptance, with the answer's numbers; else the three numbers of a refusal.
 ghost use Rattle.std.specs.Prelude.{◌≡◌};
-ghost use Rattle.c_reply.specs.Replies.{accepted, accepted_four, refused, opened_reply, length_reply, frequency_reply};
+ghost use Rattle.c_reply.specs.Replies.{accepted, accepted_four, refused_with, opened_reply, length_reply, frequency_reply};
 ghost use Rattle.c_reply.specs.Replies.{counted_reply, listed_reply, imported_reply, bar_read_reply, hits_reply};
 
 use segment::refusal::{Numbers, Refusal};
@@ -41,11 +41,11 @@ fn accept_four(first: u64, second: u64, third: u64, fourth: u64) -> Reply
     }
 }
 
-// A refusal.
-fn refuse(x: Refusal) -> Reply
-    ensures { result ≡ refused x }
+// A refusal's three numbers, whichever they are.
+pub fn of_refused(x: Numbers) -> Reply
+    ensures { result ≡ refused_with x }
 {
-    let Numbers { kind, which, index } = x.numbers();
+    let Numbers { kind, which, index } = x;
     Reply {
         kind,
         which,
@@ -63,7 +63,7 @@ pub fn of_opened(a: Result<Counts, Refusal>) -> Reply
 {
     match a {
         Ok(c) => accept(c.documents as u64, c.terms as u64),
-        Err(x) => refuse(x),
+        Err(x) => of_refused(x.numbers()),
     }
 }
 
@@ -74,7 +74,7 @@ pub fn of_length(a: Result<Option<u32>, Refusal>) -> Reply
     match a {
         Ok(Some(n)) => accept(1, n as u64),
         Ok(None) => accept(0, 0),
-        Err(x) => refuse(x),
+        Err(x) => of_refused(x.numbers()),
     }
 }
 
@@ -84,7 +84,7 @@ pub fn of_counted(a: Result<usize, Refusal>) -> Reply
 {
     match a {
         Ok(n) => accept(n as u64, 0),
-        Err(x) => refuse(x),
+        Err(x) => of_refused(x.numbers()),
     }
 }
 
@@ -101,7 +101,7 @@ pub fn of_listed(a: Result<Totals, Refusal>) -> Reply
 {
     match a {
         Ok(t) => accept(t.postings as u64, t.positions as u64),
-        Err(x) => refuse(x),
+        Err(x) => of_refused(x.numbers()),
     }
 }
 
@@ -116,7 +116,7 @@ pub fn of_imported(a: Result<ListTotals, Refusal>) -> Reply
             t.postings as u64,
             t.positions as u64,
         ),
-        Err(x) => refuse(x),
+        Err(x) => of_refused(x.numbers()),
     }
 }
 
@@ -126,7 +126,7 @@ pub fn of_bar_read(a: Result<BarRead, Refusal>) -> Reply
 {
     match a {
         Ok(bar) => accept(bar.hits as u64, bar.len as u64),
-        Err(x) => refuse(x),
+        Err(x) => of_refused(x.numbers()),
     }
 }
 

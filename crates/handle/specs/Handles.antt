@@ -1,6 +1,7 @@
 -- Handles: the one that checking answers, and when a call uses the one that it is handed.
 use Rattle.segment.specs.Refusals.{numbers}
 use Rattle.std.specs.Prelude.{Err, Ok, ℕ, ◌≤◌, ◌≡◌, List, ◌⊎◌}
+use Rattle.segment.specs.declared.refusal.Numbers.{Numbers}
 use Rattle.segment.specs.declared.refusal.Refusal.{Refusal}
 use Rattle.segment.specs.Results.{Answer}
 use Rattle.segment.specs.Records.{Segment}
@@ -28,12 +29,12 @@ accepted level l = record {
   lists = l.lists;
 }
 
--- the refusal, at level 0
-abbrev pub refused : Refusal → Handle
-refused x = record {
-  kind = (numbers x).kind;
-  which = (numbers x).which;
-  index = (numbers x).index;
+-- a refusal by its three numbers, whichever they are, at level 0
+abbrev pub refused_with : Numbers → Handle
+refused_with x = record {
+  kind = x.kind;
+  which = x.which;
+  index = x.index;
   level = 0;
   documents = 0;
   terms = 0;
@@ -42,6 +43,9 @@ refused x = record {
   metadata = 0;
   lists = 0;
 }
+
+abbrev pub refused : Refusal → Handle
+refused x = refused_with (numbers x)
 
 abbrev pub handled : (level : ℕ) → Layout → Answer Segment → Handle
 handled level l (Ok s) = accepted level l

@@ -1,6 +1,6 @@
 // A handle is numbers by value, which a caller keeps beside the bytes and hands back.
 ghost use Rattle.std.specs.Prelude.{◌≡◌, true, ◌↔◌};
-ghost use Rattle.handle.specs.Handles.{accepted, refused, layout_of, Usable};
+ghost use Rattle.handle.specs.Handles.{accepted, refused_with, refused, layout_of, Usable};
 
 use read_open::header::{Layout, fits};
 use segment::refusal::{Numbers, Refusal};
@@ -40,11 +40,11 @@ pub fn accepted(level: u32, at: Layout) -> Handle
     }
 }
 
-// The handle of bytes that were refused.
-pub fn refused(x: Refusal) -> Handle
-    ensures { result ≡ refused x }
+// The handle of bytes that were refused, by the three numbers of a refusal, whichever they are.
+pub fn refused_with(x: Numbers) -> Handle
+    ensures { result ≡ refused_with x }
 {
-    let Numbers { kind, which, index } = x.numbers();
+    let Numbers { kind, which, index } = x;
     Handle {
         kind,
         which,
@@ -57,6 +57,13 @@ pub fn refused(x: Refusal) -> Handle
         metadata: 0,
         lists: 0,
     }
+}
+
+// The handle of bytes that were refused.
+pub fn refused(x: Refusal) -> Handle
+    ensures { result ≡ refused x }
+{
+    refused_with(x.numbers())
 }
 
 // The layout that a handle carries.

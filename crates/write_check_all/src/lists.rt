@@ -15,7 +15,7 @@ use common::widths::long;
 use segment::ids::DocId;
 use segment::refusal::{Reason, Refusal};
 use write_checks::check::{check_document_lengths, check_name};
-use write_checks::measure::measure_posting;
+use write_checks::measure::measure_posting_from;
 use write_checks::shape::{is_shaped, is_small};
 use write_lookup::hints::index_from;
 
@@ -37,14 +37,17 @@ pub fn measure_postings(
 {
     let mut size: usize = 0;
     let mut previous: Option<DocId> = None;
+    // What the next gap is taken from.
+    let mut base = DocId(0);
     let mut near: usize = 0;
     let mut at: usize = 0;
     for i in 0..posting_ids.len() {
         let doc = DocId(posting_ids[i]);
         near = index_from(ids, doc, near);
         let end = at + long(counts[i]);
-        size += measure_posting(ids, lengths, previous, doc, near, &positions[at..end])?;
+        size += measure_posting_from(ids, lengths, previous, base, doc, near, &positions[at..end])?;
         previous = Some(doc);
+        base = doc;
         at = end;
     }
     Ok(size)

@@ -1,5 +1,5 @@
 // A posting with its positions, checked and measured in one pass: the writer's refusal, or how many bytes it takes.
-ghost use Rattle.std.specs.Prelude.{None, ◌≡◌, ◌≤◌, length, option_map};
+ghost use Rattle.std.specs.Prelude.{None, Some, ◌≡◌, ◌≤◌, length, option_map};
 ghost use Rattle.common.specs.Lists.{paired};
 ghost use Rattle.segment.specs.Metadata.{document};
 ghost use Rattle.segment.specs.Records.{gap};
@@ -44,19 +44,21 @@ fn measure_positions(positions: &[u32], len: u32) -> Result<usize, Refusal>
 }
 
 // One posting, in document 01's order of tests: unknown document, underflow, order, no positions, then each position. `near` is a hint
-// where the document's id is; it affects speed only. The first posting of a term has no document before it.
+// where the document's id is; it affects speed only. The order is that behind `previous`, which the first posting of a term lacks; the gap
+// is taken from `base`, whichever it is.
 #[tactic(auto, using(crate::proofs::Use::sizes), unfolding(calls::specs::Checks::check_posting, segment::specs::Written::posting_bytes))]
-pub fn measure_posting(
+pub fn measure_posting_from(
     ids: &[u32],
     lengths: &[u32],
     previous: Option<DocId>,
+    base: DocId,
     doc: DocId,
     near: usize,
     positions: &[u32],
 ) -> Result<usize, Refusal>
     requires { RisingByIndex ids.now × (length ids.now ≡ length lengths.now) × (length positions.now ≤ 16777216) }
     ensures { result ≡ measured (check_posting (paired document ids.now lengths.now) (option_map (λ d. d.0) previous)
-        (posting doc.0 positions.now)) (length (posting_bytes (option_map (λ d. d.0) previous) (posting doc.0 positions.now))) }
+        (posting doc.0 positions.now)) (length (posting_bytes (Some base.0) (posting doc.0 positions.now))) }
 {
     let len = known_len(ids, lengths, doc, near).ok_or(Refusal::InvalidLayout(
         Reason::UnknownDocument,
@@ -73,7 +75,24 @@ pub fn measure_posting(
         return Err(Refusal::InvalidLayout(Reason::EmptyPositionList));
     }
     let size = measure_positions(positions, len)?;
-    let gap = encoded_len(gap_from(previous.map(|d| d.0), doc.0));
+    let gap = encoded_len(gap_from(Some(base.0), doc.0));
     let count = encoded_len(positions.len() as u32);
     Ok(gap + count + size)
+}
+
+// One posting whose gap is taken from the one before it, and of the first from 0.
+pub fn measure_posting(
+    ids: &[u32],
+    lengths: &[u32],
+    previous: Option<DocId>,
+    doc: DocId,
+    near: usize,
+    positions: &[u32],
+) -> Result<usize, Refusal>
+    requires { RisingByIndex ids.now × (length ids.now ≡ length lengths.now) × (length positions.now ≤ 16777216) }
+    ensures { result ≡ measured (check_posting (paired document ids.now lengths.now) (option_map (λ d. d.0) previous)
+        (posting doc.0 positions.now)) (length (posting_bytes (option_map (λ d. d.0) previous) (posting doc.0 positions.now))) }
+{
+    let base = previous.unwrap_or(DocId(0));
+    measure_posting_from(ids, lengths, previous, base, doc, near, positions)
 }

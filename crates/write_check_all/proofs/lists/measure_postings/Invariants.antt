@@ -1,6 +1,6 @@
 -- What is left to check, behind the posting before, answers as the whole does; what was counted and the length of the bytes still to come
--- are the length of all.
-use Rattle.std.specs.Prelude.{None, option_map}
+-- are the length of all. The next gap is taken from the base.
+use Rattle.std.specs.Prelude.{None, Some, option_map}
 use mathlib.Core.Path.{◌≡◌}
 use Prim.Native.Nat.{◌+◌, ◌*◌, ◌≤◌}
 use lib.ListN.{length, drop}
@@ -20,6 +20,6 @@ invariant-loop-i l =
     × (checked (check_postings (paired document l.ids l.lengths) previous
     (postings_in (drop l.i l.posting_ids) (drop l.i l.counts) (drop l.at l.positions)))
     ≡ checked (check_postings (paired document l.ids l.lengths) None (postings_in l.posting_ids l.counts l.positions)))
-    × (l.size + length (postings_left l.posting_ids l.counts l.positions previous l.at l.i)
+    × (l.size + length (postings_left l.posting_ids l.counts l.positions (Some l.base.0) l.at l.i)
     ≡ length (postings_bytes None (postings_in l.posting_ids l.counts l.positions)))
     × (length (postings_bytes None (postings_in l.posting_ids l.counts l.positions)) ≤ 10 * length l.counts + 5 * length l.positions)
