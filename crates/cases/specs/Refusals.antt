@@ -49,6 +49,10 @@ reasons_of_writing = refl
 kind_1 : (section : Section) → numbers (truncated section) ≡ three 1 (section_number section) 0
 kind_1 section = refl
 
+-- and of any number, whether it is one of these or not
+told_1 : (section : ℕ) → three 1 section 0 ≡ record { kind = 1; which = section; index = 0 }
+told_1 section = refl
+
 -- 2 magic
 kind_2 : numbers invalid_magic ≡ three 2 0 0
 kind_2 = refl
@@ -65,13 +69,25 @@ kind_4 value = refl
 kind_5 : (section : Section) → numbers (checksum_mismatch section) ≡ three 5 (section_number section) 0
 kind_5 section = refl
 
+-- and of any number, whether it is one of these or not
+told_5 : (section : ℕ) → three 5 section 0 ≡ record { kind = 5; which = section; index = 0 }
+told_5 section = refl
+
 -- 6 layout (which: reason)
 kind_6 : (reason : Reason) → numbers (invalid_layout reason) ≡ three 6 (reason_number reason) 0
 kind_6 reason = refl
 
+-- and of any number, whether it is one of these or not
+told_6 : (reason : ℕ) → three 6 reason 0 ≡ record { kind = 6; which = reason; index = 0 }
+told_6 reason = refl
+
 -- 7 varint (section, index)
 kind_7 : (section : Section) (index : ℕ) → numbers (invalid_varint section index) ≡ three 7 (section_number section) index
 kind_7 section index = refl
+
+-- and of any number, whether it is one of these or not
+told_7 : (section index : ℕ) → three 7 section index ≡ record { kind = 7; which = section; index = index }
+told_7 section index = refl
 
 -- 8 document id overflow (index)
 kind_8 : (index : ℕ) → numbers (doc_id_overflow index) ≡ three 8 0 index
