@@ -39,17 +39,23 @@ pub fn checked_end<E: Copy>(
     Ok(at + n)
 }
 
+// Why a range has no end: no offset is so large, or it is past the whole.
+#[derive(Clone, Copy)]
+enum NoEnd {
+    Overflow,
+    Short,
+}
+
 // The offset after `n` bytes from offset `at`: it fits 64 bits and is not past `whole`.
 pub fn checked_range(at: usize, n: usize, whole: usize, section: Section) -> Result<usize, Refusal>
     ensures { result ≡ range_end section at n whole }
 {
-    checked_end(
-        at,
-        n,
-        whole,
-        Refusal::InvalidLayout(Reason::SectionRangeOverflow),
-        Refusal::Truncated(section),
-    )
+    // A refusal is larger than an offset: it is made only where the range has no end.
+    match checked_end(at, n, whole, NoEnd::Overflow, NoEnd::Short) {
+        Ok(end) => Ok(end),
+        Err(NoEnd::Overflow) => Err(Refusal::InvalidLayout(Reason::SectionRangeOverflow)),
+        Err(NoEnd::Short) => Err(Refusal::Truncated(section)),
+    }
 }
 
 // The four ranges, the first bad one first; then trailing bytes.
