@@ -20,8 +20,9 @@ use std::io::{Print, Write};
 // A refusal's line. No index of a refusal has more than ten digits here.
 fn print_refusal(rt: &HostRuntime, x: Refusal) -> io::Result<()> {
     let mut line = [0u8; 31];
-    if x.numbers().index < 10000000000 {
-        let _ = list_refusal(x, &mut line);
+    let numbers = x.numbers();
+    if numbers.index < 10000000000 {
+        let _ = list_refusal(numbers, &mut line);
         Print::write_all(rt, &line)?;
     }
     Ok(())

@@ -24,7 +24,7 @@ use Rattle.read_open.specs.Opened.{IsOpen, Opens, OpenedAs}
 use Rattle.read_cursors.proofs.DocumentsHeld.{held_rise}
 use Rattle.calls.specs.Replies.{count_of, filled}
 use Rattle.calls.specs.Listing.{column, document_lines, entry_lines, count_line, refusal_line, text_of, listable, listing, list_into}
-use Rattle.show_listing.specs.Steps.{TextListed, SegmentListed, entry_lines_at}
+use Rattle.show_listing.specs.Steps.{TextListed, SegmentListed, RefusalListed, numbers_line, entry_lines_at}
 use Rattle.show_listing.specs.Promise.{ListedInto}
 use Rattle.common.proofs.Stores.{stored_append}
 use Rattle.show_columns.proofs.Columns.{column_length}
@@ -50,18 +50,26 @@ module _ {text out : List ℕ} {w : ℕ} (is : length text ≡ w) where
 
 -- ---- a refusal's line
 
--- n are its numbers, as a call told them
-module _ (x : Refusal) {n : Numbers} (is : n ≡ numbers x) where
-  pub refusal_length : n.kind < 10000000000 → n.which < 10000000000 → n.index < 10000000000 → length (refusal_line x) ≡ 31
-  unfolding refusal_line
+module _ (x : Numbers) where
+  pub refusal_length : x.kind < 10000000000 → x.which < 10000000000 → x.index < 10000000000 → length (numbers_line x) ≡ 31
+  unfolding numbers_line
   refusal_length k w i =
-      rw (← is) (simp (length-append, column_length n.kind k, column_length n.which w, column_length n.index i))
+      simp (length-append, column_length x.kind k, column_length x.which w, column_length x.index i)
 
-  pub refusal_stored : {out o₁ o₂ o₃ o₄ : List ℕ} {n₁ n₂ n₃ n₄ : ℕ} → Stored (column n.kind) 0 out n₁ o₁
-      → Stored (column n.which) n₁ o₁ n₂ o₂ → Stored (column n.index) n₂ o₂ n₃ o₃ → Stored (10 ∷ []) n₃ o₃ n₄ o₄
-      → Stored (refusal_line x) 0 out n₄ o₄
-  unfolding refusal_line
-  refusal_stored k w i e = rw (← is) (stored_append (stored_append (stored_append k w) i) e)
+  pub refusal_stored : {out o₁ o₂ o₃ o₄ : List ℕ} {n₁ n₂ n₃ n₄ : ℕ} → Stored (column x.kind) 0 out n₁ o₁
+      → Stored (column x.which) n₁ o₁ n₂ o₂ → Stored (column x.index) n₂ o₂ n₃ o₃ → Stored (10 ∷ []) n₃ o₃ n₄ o₄
+      → Stored (numbers_line x) 0 out n₄ o₄
+  unfolding numbers_line
+  refusal_stored k w i e = stored_append (stored_append (stored_append k w) i) e
+
+-- that of a refusal's own numbers, as a call told them
+pub own_line : (x : Refusal) {n : Numbers} → n ≡ numbers x → numbers_line n ≡ refusal_line x
+unfolding numbers_line refusal_line
+own_line x is = ap numbers_line is
+
+pub own_listed : (x : Refusal) {n : Numbers} {out out' : List ℕ} {r : Answer ℕ} → n ≡ numbers x → RefusalListed n out r out'
+    → TextListed (refusal_line x) out r out'
+own_listed x is t = rw (own_line x is) at t
 
 -- ---- an open segment's lines
 
@@ -108,11 +116,11 @@ listed_into : {bytes text out out' : List ℕ} {r : Answer ℕ} → listing byte
 unfolding list_into
 listed_into e t = record { reply = rw e t.reply; left = rw e t.left }
 
-pub listed_large : (bytes : List ℕ) {out out' : List ℕ} {q : Answer ℕ} → 65536 < length bytes
-    → TextListed (refusal_line too_large) out q out'
+pub listed_large : (bytes : List ℕ) {n : Numbers} {out out' : List ℕ} {q : Answer ℕ} → 65536 < length bytes → n ≡ numbers too_large
+    → RefusalListed n out q out'
     → ListedInto bytes out q out'
 unfolding listing listable
-listed_large bytes h t = listed_into (rw (lt-leb (length bytes) 65536 h)) t
+listed_large bytes h is t = listed_into (rw (lt-leb (length bytes) 65536 h)) (own_listed too_large is t)
 
 opened_text : (bytes : List ℕ) → length bytes ≤ 65536 → listing bytes ≡ text_of (open_segment bytes)
 unfolding listing listable
@@ -130,13 +138,13 @@ module _ (bytes : List ℕ) {r : Answer Layout} (o : Opens bytes r) where
         let (s, q, is) = rw e at o in
         listed_into (opened_text bytes h ∙ ap text_of q) (t s is)
 
-  module _ {x : Refusal} (e : r ≡ Err x) where
-    pub refused_small : Bytes bytes → (numbers x).index < 10000000000
-    refused_small b = omega (arith, index_small bytes b (rw e at o))
+  module _ {x : Refusal} (e : r ≡ Err x) {n : Numbers} (is : n ≡ numbers x) where
+    pub refused_small : Bytes bytes → n.index < 10000000000
+    refused_small b = rw is (omega (arith, index_small bytes b (rw e at o)))
 
-    pub listed_refused : {out out' : List ℕ} {q : Answer ℕ} → length bytes ≤ 65536 → TextListed (refusal_line x) out q out'
+    pub listed_refused : {out out' : List ℕ} {q : Answer ℕ} → length bytes ≤ 65536 → RefusalListed n out q out'
         → ListedInto bytes out q out'
-    listed_refused h t = listed_into (opened_text bytes h ∙ ap text_of (rw e at o)) t
+    listed_refused h t = listed_into (opened_text bytes h ∙ ap text_of (rw e at o)) (own_listed x is t)
 
 -- the text lies in the slice
 pub listed_fits : {bytes out out' : List ℕ} {r : Answer ℕ} {k : ℕ} → ListedInto bytes out r out' → r ≡ Ok k → k ≤ length out'

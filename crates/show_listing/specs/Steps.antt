@@ -1,6 +1,6 @@
 -- What the code over the lent slice computes.
-use Rattle.std.specs.Prelude.{Ok, ℕ, zero, suc, ◌+◌, ◌*◌, ◌≤◌, ◌<◌, ◌≡◌, List, [], ◌++◌, length}
-use Rattle.segment.specs.declared.refusal.Refusal.{Refusal}
+use Rattle.std.specs.Prelude.{Ok, ℕ, zero, suc, ◌+◌, ◌*◌, ◌≤◌, ◌<◌, ◌≡◌, List, [], ◌∷◌, ◌++◌, length}
+use Rattle.segment.specs.declared.refusal.Numbers.{Numbers}
 use Rattle.read_open.specs.declared.directory.NameRange.{NameRange}
 use Rattle.read_open.specs.declared.header.Layout.{Layout}
 use Rattle.segment.specs.Results.{Answer, roomy, ◌>>=◌}
@@ -8,7 +8,7 @@ use Rattle.segment.specs.Records.{Segment, field, entry_size}
 use Rattle.read_open.specs.Steps.{entry_at, EntryInside}
 use Rattle.read_open.specs.Opened.{IsOpen}
 use Rattle.calls.specs.Replies.{count_of, filled}
-use Rattle.calls.specs.Listing.{entry_line, refusal_line, text_of}
+use Rattle.calls.specs.Listing.{column, entry_line, text_of}
 
 -- where entry i's name lies in the term bytes
 abbrev pub name_range : (dir : List ℕ) (i : ℕ) → NameRange
@@ -41,8 +41,12 @@ pub record TextListed (text out : List ℕ) (r : Answer ℕ) (out' : List ℕ) :
   pub reply : r ≡ count_of (text_into text (length out))
   pub left : out' ≡ filled (λ t. t) (text_into text (length out)) out
 
-abbrev pub RefusalListed : Refusal → (out : List ℕ) → Answer ℕ → List ℕ → Type 0
-RefusalListed x out r out' = TextListed (refusal_line x) out r out'
+-- the line of any three numbers; that of a refusal's is its `refusal_line`
+unfoldable pub numbers_line : Numbers → List ℕ
+numbers_line x = column x.kind ++ column x.which ++ column x.index ++ 10 ∷ []
+
+abbrev pub RefusalListed : Numbers → (out : List ℕ) → Answer ℕ → List ℕ → Type 0
+RefusalListed x out r out' = TextListed (numbers_line x) out r out'
 
 abbrev pub SegmentListed : (bytes : List ℕ) → Layout → (out : List ℕ) → Answer ℕ → List ℕ → Type 0
 SegmentListed bytes l out r out' = (s : Segment) → IsOpen bytes l s → TextListed (text_of (Ok s)) out r out'

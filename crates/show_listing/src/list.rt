@@ -2,7 +2,6 @@
 ghost use Rattle.std.specs.Prelude.{None, ◌≡◌, [], ◌∷◌, ◌++◌, ◌+◌, ◌*◌, ◌^◌, ◌≤◌, ◌<◌, length};
 ghost use Rattle.common.specs.Stores.{Stored};
 ghost use Rattle.segment.specs.Records.{entry_size};
-ghost use Rattle.segment.specs.Refusals.{numbers};
 ghost use Rattle.read_cursors.specs.Held.{held_documents};
 ghost use Rattle.read_open.specs.Steps.{entry_at, EntryInside};
 ghost use Rattle.calls.specs.Listing.{column, document_lines, entry_line};
@@ -17,7 +16,7 @@ use read_open::directory::NameRange;
 use read_open::header::Layout;
 use read_open::open_segment::open_layout;
 use segment::fixed::{ENTRY_SIZE, HEADER_SIZE, read_u32_at};
-use segment::refusal::Refusal;
+use segment::refusal::{Numbers, Refusal};
 use show_columns::put::{name_len, put_name, put_number};
 
 // The end of a line.
@@ -113,18 +112,17 @@ fn put_entries(dir: &[u8], names: &[u8], terms: usize, out: &mut [u8], at: usize
     next
 }
 
-// A refusal's line.
-pub fn list_refusal(x: Refusal, out: &mut [u8]) -> Result<usize, Refusal>
-    requires { (numbers x).index < 10000000000 }
+// A refusal's line, by its three numbers.
+pub fn list_refusal(x: Numbers, out: &mut [u8]) -> Result<usize, Refusal>
+    requires { x.index < 10000000000 }
     ensures { RefusalListed x out.old result out.new }
 {
-    let n = x.numbers();
     if out.len() < 31 {
         return Err(Refusal::NoRoom(1, 31));
     }
-    let next = put_number(out, 0, n.kind as u64);
-    let next = put_number(out, next, n.which as u64);
-    let end = put_number(out, next, n.index);
+    let next = put_number(out, 0, x.kind as u64);
+    let next = put_number(out, next, x.which as u64);
+    let end = put_number(out, next, x.index);
     Ok(put_end(out, end))
 }
 
@@ -153,10 +151,10 @@ pub fn listing(bytes: &[u8], out: &mut [u8]) -> Result<usize, Refusal>
     ensures { ListedInto bytes.now out.old result out.new }
 {
     if 65536 < bytes.len() {
-        return list_refusal(Refusal::TooLarge, out);
+        return list_refusal(Refusal::TooLarge.numbers(), out);
     }
     match open_layout(bytes) {
         Ok(at) => list_segment(bytes, at, out),
-        Err(x) => list_refusal(x, out),
+        Err(x) => list_refusal(x.numbers(), out),
     }
 }

@@ -4,14 +4,14 @@ use Rattle.show_listing.proofs.Listed.{listed_large, layout_listable, listed_lay
 use Rattle.show_listing.proofs.list.listing.Goals as goal
 
 pub returns-then-bytes-gt65536 : goal.returns-then-bytes-gt65536
-returns-then-bytes-gt65536 c = listed_large _ c.if-bytes-gt65536.true c.list_refusal.ensures
+returns-then-bytes-gt65536 c = listed_large _ c.if-bytes-gt65536.true c.numbers.ensures c.list_refusal.ensures
 
 pub list_segment-requires : goal.list_segment-requires
 list_segment-requires c = layout_listable _ c.open_layout.ensures c.in-Ok.is
 
 pub list_refusal-requires-in-Err : goal.list_refusal-requires-in-Err
 list_refusal-requires-in-Err c =
-    refused_small _ c.open_layout.ensures c.in-Err.is
+    refused_small _ c.open_layout.ensures c.in-Err.is c.numbers-in-Err.ensures
     (each_below _ (λ i. omega (arith, c.type_inv.bytes i)))
 
 pub returns-in-Ok : goal.returns-in-Ok
@@ -19,4 +19,4 @@ returns-in-Ok c = listed_layout _ c.open_layout.ensures c.in-Ok.is (omega arith)
 
 pub returns-in-Err : goal.returns-in-Err
 returns-in-Err c =
-    listed_refused _ c.open_layout.ensures c.in-Err.is (omega arith) c.list_refusal-in-Err.ensures
+    listed_refused _ c.open_layout.ensures c.in-Err.is c.numbers-in-Err.ensures (omega arith) c.list_refusal-in-Err.ensures
