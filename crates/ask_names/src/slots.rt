@@ -8,7 +8,7 @@ use read_terms::find::TermList;
 
 // The different terms that a question's names name. `taken` names were taken; they name `different` terms. The name with index i names
 // term slot[i]; term k's list is list[k], and it is named wanted[k] times. `absent`: some name has no term.
-#[derive(Drop)]
+#[derive(Clone, Copy)]
 pub struct Names {
     pub taken: usize,
     pub different: usize,
