@@ -73,6 +73,9 @@ module _ {bytes : List ℕ} {at : Layout} {s : Names} (w : NamedBy bytes at s) w
   held : Holding (EntryNamed bytes) names s
   held = rw w.resolved.slots (holding_all (told bytes) (renamed bytes at w.resolved.each) (omega (arith, count_same, w.few)))
 
+  pub any_long : length s.list ≡ 128
+  any_long = held.sound.list_long
+
   pub any_few : s.different ≤ 128
   any_few = omega (arith, held.sound.few, held.taken, count_same, w.few)
 

@@ -4,13 +4,22 @@ use Rattle.segment.specs.Results.{Answer}
 use mathlib.Core.Path.{◌≡◌, refl, sym, ap, ◌∙◌}
 use mathlib.Core.List.{List}
 use Prim.Native.Nat.{ℕ}
-use lib.ListN.{get_or}
+use lib.ListN.{length, get_or}
+use Rattle.std.specs.List.{SwappedAt}
 use Rattle.rules.specs.declared.rule.Rule.{Rule}
 use Rattle.calls.specs.Lookups.{positions_of}
+use Rattle.read_terms.specs.declared.find.TermList.{TermList}
 use Rattle.ask_names.specs.declared.slots.Names.{Names}
+use Rattle.ask_names.specs.Steps.{no_list}
 use Rattle.ask_names.specs.Lists.{swap, Led}
-use Rattle.ask_names.proofs.Leads.{swap_first, swap_twice, led_numbers}
+use Rattle.ask_names.proofs.Leads.{swap_first, swap_twice, swapped_back, led_numbers}
 use Rattle.ask_answer.specs.Steps.{held_list, Fitting, ListsAnswered}
+
+-- where the lists 0 and c, the number told, change places again, each stands where it stood
+pub led_back : {s t : Names} (led : Led s t) {c : ℕ} {lists : List TermList} → c ≡ led.b → SwappedAt t.list lists 0 c
+    → length lists ≡ length s.list
+    → lists ≡ s.list
+led_back {s} {t} led {lists = lists} is w long = swapped_back no_list s.list t.list lists led.b led.lists (rw is at w) long
 
 module _ (bytes : List ℕ) {s t : Names} (led : Led s t) where
   -- the list with a new number is the one with the old number

@@ -1,5 +1,5 @@
 // The answer for names that are resolved: their lists decoded, the rarest put first, the documents found.
-ghost use Rattle.ask_names.specs.Lists.{ListsInside};
+ghost use Rattle.ask_names.specs.Lists.{ListsInside, ListsKept};
 ghost use Rattle.ask_answer.specs.Steps.{ListsPassed, NamedBy, NamesAnswered};
 
 use crate::lists::answer_lists;
@@ -23,8 +23,8 @@ pub fn check_lists(bytes: &[u8], at: Layout, sure: bool, lists: &[TermList]) -> 
     decode_lists(bytes, at, lists)
 }
 
-// The answer for resolved names of a question that is not idle. `sure`: it is known that every list of the segment decodes. The names are
-// used up: their terms' numbers change.
+// The answer for resolved names of a question that is not idle. `sure`: it is known that every list of the segment decodes. The names'
+// numbers are used up; each list stands where it stood.
 pub fn answer_names(
     bytes: &[u8],
     at: Layout,
@@ -34,12 +34,15 @@ pub fn answer_names(
     ids: &mut [u32],
 ) -> Result<usize, Refusal>
     requires { NamedBy bytes.now at names.old }
-    ensures { NamesAnswered bytes.now at sure rule names.old ids.old result ids.new }
+    ensures answered { NamesAnswered bytes.now at sure rule names.old ids.old result ids.new }
+    ensures kept { ListsKept names.old names.new }
 {
     check_lists(bytes, at, sure, &names.list[..names.different])?;
     if names.absent {
         return Ok(0);
     }
-    names.lead_with_rarest();
-    answer_lists(bytes, rule, names, ids)
+    let b = names.lead_with_rarest();
+    let answer = answer_lists(bytes, rule, names, ids);
+    names.list.swap(0, b);
+    answer
 }

@@ -6,7 +6,7 @@ use mathlib.Core.Logic.{◌⊎◌, inl, inr}
 use Prim.Native.Nat.{ℕ, ◌+◌, ◌≤◌, ◌<◌}
 use native.Mathlib.Omega.{arith}
 use Rattle.std.proofs.Math.ListN.{get_or-append}
-use Rattle.std.proofs.lemmas.List.{get_or-take}
+use Rattle.std.proofs.lemmas.List.{ext_get_or, get_or-take}
 use Rattle.std.specs.List.{SwappedAt}
 use lib.ListN.{length, get_or, set, take, drop, length-append, length-drop}
 use lib.Seq.{get_or-set_other}
@@ -55,6 +55,12 @@ swapped_at d xs ys b s k = step (equal_or_not k 0) (equal_or_not k b)
     step (inl e) f = rw (← swap_first b k e, e) (s.0 d)
     step (inr e) (inl f) = rw (← swap_other b k e f, f) (s.1 d)
     step (inr e) (inr f) = rw (← swap_stays b k e f) (s.2 k d e f)
+
+-- changed twice, each term has what it had
+pub swapped_back : {A : Type 0} (d : A) (xs ys zs : List A) (b : ℕ) → Swapped d b xs ys → SwappedAt ys zs 0 b → length zs ≡ length xs
+    → zs ≡ xs
+swapped_back d xs ys zs b s t long =
+    ext_get_or d zs xs long (λ k h. swapped_at d ys zs b t k ∙ s (swap b k) ∙ ap (λ j. get_or xs j d) (swap_twice b k))
 
 -- ---- the names, one after the other
 

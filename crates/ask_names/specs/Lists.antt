@@ -55,3 +55,10 @@ pub record Led (s t : Names) : Type 0 where
   pub names : Renamed s.taken b s.slot t.slot
   pub lists : Swapped no_list b s.list t.list
   pub counts : Swapped 0 b s.wanted t.wanted
+
+-- how many names were taken and whether one has no term, and each term's list, are as before
+pub record ListsKept (s t : Names) : Type 0 where
+  pub taken : t.taken ≡ s.taken
+  pub different : t.different ≡ s.different
+  pub absent : t.absent ≡ s.absent
+  pub lists : t.list ≡ s.list

@@ -34,10 +34,10 @@ fn swapped(b: usize, k: usize) -> usize
 }
 
 impl Names {
-    // The rarest list gets number 0, and the list that had it gets its number.
-    pub fn lead_with_rarest(&mut self)
+    // The rarest list gets number 0, and the list that had it gets its number, which is returned.
+    pub fn lead_with_rarest(&mut self) -> usize
         requires { (self.old.taken ≤ 128) × (0 < self.old.different) × (self.old.different ≤ 128) }
-        ensures { Led self.old self.new }
+        ensures { (led : Led self.old self.new) × (result ≡ led.b) }
     {
         let b = rarest(&self.list[..self.different]);
         for slot in self.slot[..self.taken].iter_mut() {
@@ -45,5 +45,6 @@ impl Names {
         }
         self.list.swap(0, b);
         self.wanted.swap(0, b);
+        b
     }
 }

@@ -43,9 +43,9 @@ pub returns : goal.returns
 returns c =
     let w = (goal.at.returns c).After-resolve in
     record {
-      kept = c.answer_names.ensures.kept;
+      kept = c.answer_names.ensures.answered.kept;
       plain = λ s is known.
-          c.answer_names.ensures.plain
+          c.answer_names.ensures.answered.plain
           (record {
             segment = s;
             is_open = is;

@@ -38,9 +38,9 @@ answer_names-requires c =
 pub returns : goal.returns
 returns c =
     record {
-      kept = c.answer_names.ensures.kept;
+      kept = c.answer_names.ensures.answered.kept;
       plain = λ s is known.
-          c.answer_names.ensures.plain
+          c.answer_names.ensures.answered.plain
           (record {
             segment = s;
             is_open = is;

@@ -38,7 +38,7 @@ returns c =
     let w = (goal.at.returns c).After-resolve in
     record {
       replies = λ s is.
-          c.rank_names.ensures.replies
+          c.rank_names.ensures.answered.replies
           (record {
             segment = s;
             is_open = is;

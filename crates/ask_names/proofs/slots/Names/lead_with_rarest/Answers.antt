@@ -16,16 +16,18 @@ loop-slot-preserved c =
 pub returns : goal.returns
 returns c =
     let s = c.args.self.now in
-    let l = c.loop-slot in
-    record {
-      b = c.rarest-b.result;
-      is_term = search (rules, c.rarest-b.ensures);
-      taken = refl;
-      different = refl;
-      absent = refl;
-      names =
-          turned_all s.taken c.rarest-b.result s.slot l.slot-items l.slot-index l.invariant (search rules) (search rules)
-          c.requires.0 (search rules);
-      lists = swapped_at no_list s.list c.swap.new.self c.rarest-b.result c.swap.ensures.by_index;
-      counts = swapped_at 0 s.wanted c.swap-2.new.self c.rarest-b.result c.swap-2.ensures.by_index;
-    }
+    let l = c.loop-slot in (
+      record {
+        b = c.rarest-b.result;
+        is_term = search (rules, c.rarest-b.ensures);
+        taken = refl;
+        different = refl;
+        absent = refl;
+        names =
+            turned_all s.taken c.rarest-b.result s.slot l.slot-items l.slot-index l.invariant (search rules) (search rules)
+            c.requires.0 (search rules);
+        lists = swapped_at no_list s.list c.swap.new.self c.rarest-b.result c.swap.ensures.by_index;
+        counts = swapped_at 0 s.wanted c.swap-2.new.self c.rarest-b.result c.swap-2.ensures.by_index;
+      },
+      refl,
+    )
